@@ -1,0 +1,11 @@
+pub mod Finite
+pub mod Bits
+pub mod Tables
+pub mod Checks
+pub mod Offsets
+pub mod Mids
+pub mod Writes
+pub mod ByteBits
+pub mod Writing
+pub mod ReadBack
+pub mod Accepted
