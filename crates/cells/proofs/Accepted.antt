@@ -21,12 +21,12 @@ use Rattle.cells.specs.declared.format.Format.the-variants.{Fuse, Flash}
 use Rattle.cells.specs.Cells.{Cells, Alike}
 use Rattle.cells.specs.Rows.{Row, Served}
 use Rattle.cells.specs.Image.{count-bytes, limit-of, bit, set-bit, reads, width-at, pages-at, page-bytes, page-at, size, pages-of, width-of, count-of, wear-of, cells-at, decoded}
-use Rattle.cells.specs.Check.{first-rows, count-rows, counts-rows, wear-rows, width-rows, body-rows, image-rows, Stray, Checks}
+use Rattle.cells.specs.Check.{image-rows, Stray, Checks}
 use Rattle.cells.specs.Written.{Writable, digit, byte-of, bit-for, page-byte, written, Exact, Read-back}
-use Rattle.cells.proofs.Tables.{served-first, served-rest, served-not-refused}
+use Rattle.cells.proofs.Tables.{served-not-refused}
 use Rattle.cells.proofs.ByteBits.{byte-of-bits, byte-same, bit-for-read, digits-of}
 use Rattle.cells.proofs.Writing.{written-length, written-pages, written-count, written-width-high, written-width-low, written-page}
-use Rattle.cells.proofs.Checks.{counts-each}
+use Rattle.cells.proofs.Good.{Good, served-good}
 use Rattle.cells.proofs.ReadBack.{read-back, written-served}
 
 -- the digits of a wear count are its bytes
@@ -56,47 +56,16 @@ module _ (f : Format) (xs : List ℕ) (small : (i : ℕ) → getD xs i 0 < 256) 
   abbrev m : Cells
   m = decoded f xs
 
-  first : Served (first-rows xs)
-  first = served-first (first-rows xs) _ served
-
-  after-first : Served (wear-rows f xs ++ (width-rows f xs ++ body-rows f P c xs))
-  after-first = served-rest (first-rows xs) _ served
-
-  wear : Served (wear-rows f xs)
-  wear = served-first (wear-rows f xs) _ after-first
-
-  after-wear : Served (width-rows f xs ++ body-rows f P c xs)
-  after-wear = served-rest (wear-rows f xs) _ after-first
-
-  width : Served (width-rows f xs)
-  width = served-first (width-rows f xs) (body-rows f P c xs) after-wear
-
-  body : Served (body-rows f P c xs)
-  body = served-rest (width-rows f xs) (body-rows f P c xs) after-wear
-
-  bounds : (1 ≤ P) × (P ≤ 64) × (1 ≤ c) × (c ≤ 1024)
-  bounds =
-      let a : P ≡ 0 → ⊥ = λ e. first .1 .0 (inl e) in
-      let b : 64 < P → ⊥ = λ h. first .1 .0 (inr h) in
-      let d : c ≡ 0 → ⊥ = λ e. width .1 .0 (inl e) in
-      let e : 1024 < c → ⊥ = λ h. width .1 .0 (inr h) in
-      (omega arith, omega arith, omega arith, omega arith)
-
-  long : length xs ≡ size f P c
-  long = omega (arith, body .0, body .1 .1 .0)
-
-  wear-kept : f ≡ Flash → (p : ℕ) → p < P → count-of xs p ≤ 10000
-  wear-kept e p h =
-      let rows : Served (counts-rows xs P) = subst (λ g. Served (wear-rows g xs)) e wear in
-      omega (arith, counts-each xs P rows p h .1 .0)
+  good : Good f P c xs
+  good = served-good f xs served
 
   pub writable : Writable f m
   writable =
       record {
-        some = bounds .0;
-        few = bounds .1;
-        wide = bounds .2;
-        narrow = bounds .3;
+        some = good .some;
+        few = good .few;
+        wide = good .wide;
+        narrow = good .narrow;
         limit = refl;
         wear = λ p h. below f p;
       }
@@ -109,7 +78,7 @@ module _ (f : Format) (xs : List ℕ) (small : (i : ℕ) → getD xs i 0 < 256) 
   same-count : (g : Format) → f ≡ g → (k : ℕ) → k < count-bytes g * P → digit (wear-of g xs (k / 4)) (k % 4) ≡ getD xs (1 + k) 0
   same-count Fuse e k h = absurd (omega arith)
   same-count Flash e k h =
-      let kept = wear-kept e (k / 4) (omega arith) in
+      let kept = good .worn e (k / 4) (omega arith) in
       let held : min 10000 (count-of xs (k / 4)) ≡ count-of xs (k / 4) = omega arith in
       let whole : 1 + (4 * (k / 4) + k % 4) ≡ 1 + k = omega arith in
       ap (λ w. digit w (k % 4)) held ∙ count-digit xs small (k / 4) (k % 4) (omega arith) ∙ ap (λ n. getD xs n 0) whole
@@ -120,7 +89,7 @@ module _ (f : Format) (xs : List ℕ) (small : (i : ℕ) → getD xs i 0 < 256) 
     where
       go : ((i < c) ⊎ (c ≤ i)) → ((m .set p i ≡ true) ⊎ (m .set p i ≡ false)) → (ltb i c && m .set p i) ≡ m .set p i
       go (inl used) s = ap (λ b. b && m .set p i) (lt-ltb i c used)
-      go (inr unused) (inl s) = absurd (body .1 .0 (p, h, record { place = i; unused = unused; inside = lt; reads = s }))
+      go (inr unused) (inl s) = absurd (good .clean p h (record { place = i; unused = unused; inside = lt; reads = s }))
       go (inr unused) (inr s) = and-left (ltb i c) (m .set p i) (le-ltb i c unused) ∙ sym s
 
   -- a byte of a page
@@ -143,7 +112,7 @@ module _ (f : Format) (xs : List ℕ) (small : (i : ℕ) → getD xs i 0 < 256) 
   same-page : (k : ℕ) → k < P * page-bytes c → page-byte f m (k / page-bytes c) (k % page-bytes c) ≡ getD xs (pages-at f P + k) 0
   same-page k h =
       let w = page-bytes c in
-      let some : 0 < page-bytes c = omega (arith, bounds .2) in
+      let some : 0 < page-bytes c = omega (arith, good .wide) in
       same-byte (k / w) (k % w) (div-below k w P some h) (mod-below k w some)
       ∙ ap (λ n. getD xs n 0) (add-assoc (pages-at f P) (k / w * w) (k % w) ∙ ap (λ n. pages-at f P + n) (div-add-mod' k w))
 
@@ -166,7 +135,7 @@ module _ (f : Format) (xs : List ℕ) (small : (i : ℕ) → getD xs i 0 < 256) 
       by-width (inl lt) ge = same-width i ge lt
       by-width (inr past) ge =
           let k : pages-at f P + (i - pages-at f P) ≡ i = omega arith in
-          let room : i - pages-at f P < P * page-bytes c = omega (arith, long) in
+          let room : i - pages-at f P < P * page-bytes c = omega (arith, good .long) in
           subst Same k (sym (same-page (i - pages-at f P) room) ∙ sym (written-page f m (i - pages-at f P) room))
 
       by-count : ((i < width-at f P) ⊎ (width-at f P ≤ i)) → 1 ≤ i → Same i
@@ -181,7 +150,7 @@ module _ (f : Format) (xs : List ℕ) (small : (i : ℕ) → getD xs i 0 < 256) 
       by-first (inr ge) = by-count (cases-lt i (width-at f P)) ge
 
   pub accepted : xs ≡ written f m
-  accepted = ext-getD 0 xs (written f m) (long ∙ sym (written-length f m)) same-places
+  accepted = ext-getD 0 xs (written f m) (good .long ∙ sym (written-length f m)) same-places
 
 -- The laws of the check, by what it answers.
 pub exact : (f : Format) (xs : List ℕ) → ((i : ℕ) → getD xs i 0 < 256) → (r : Result Layout ImageFault) → Checks f xs r → Exact f xs r

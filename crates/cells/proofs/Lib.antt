@@ -2,6 +2,7 @@ pub mod Finite
 pub mod Bits
 pub mod Tables
 pub mod Checks
+pub mod Good
 pub mod Offsets
 pub mod Mids
 pub mod Writes
@@ -9,3 +10,5 @@ pub mod ByteBits
 pub mod Writing
 pub mod ReadBack
 pub mod Accepted
+pub mod Intact
+pub mod BenchPart

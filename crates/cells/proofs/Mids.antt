@@ -9,15 +9,15 @@ use borrow.Author.Needs.{needs}
 use borrow.Rule.Slice.PartMut.{putMid}
 use Rattle.std.proofs.shelf.Lists.{places}
 
-module _ (a k : ℕ) (xs ys : List ℕ) (room : a + k ≤ length xs) (same : length ys ≡ k) where
+module _ {X : Type 0} (d : X) (a k : ℕ) (xs ys : List X) (room : a + k ≤ length xs) (same : length ys ≡ k) where
   pub mid-length : length (putMid a k xs ys) ≡ length xs
   mid-length = search (needs, places)
 
-  pub mid-below : (j : ℕ) → j < a → getD (putMid a k xs ys) j 0 ≡ getD xs j 0
+  pub mid-below : (j : ℕ) → j < a → getD (putMid a k xs ys) j d ≡ getD xs j d
   mid-below j h = grind (arith, places)
 
-  pub mid-above : (j : ℕ) → a + k ≤ j → getD (putMid a k xs ys) j 0 ≡ getD xs j 0
+  pub mid-above : (j : ℕ) → a + k ≤ j → getD (putMid a k xs ys) j d ≡ getD xs j d
   mid-above j h = grind (arith, places)
 
-  pub mid-inside : (j : ℕ) → j < k → getD (putMid a k xs ys) (a + j) 0 ≡ getD ys j 0
+  pub mid-inside : (j : ℕ) → j < k → getD (putMid a k xs ys) (a + j) d ≡ getD ys j d
   mid-inside j h = grind (arith, places)

@@ -15,12 +15,12 @@ use Rattle.cells.specs.declared.format.Format.the-variants.{Fuse, Flash}
 use Rattle.cells.specs.Cells.{Cells, Alike}
 use Rattle.cells.specs.Rows.{Served}
 use Rattle.cells.specs.Image.{count-bytes, limit-of, bit, set-bit, reads, width-at, pages-at, page-bytes, page-at, size, pages-of, width-of, count-of, wear-of, cells-at, decoded}
-use Rattle.cells.specs.Check.{first-rows, count-rows, wear-rows, width-rows, body-rows, image-rows, Stray}
+use Rattle.cells.specs.Check.{image-rows, Stray}
 use Rattle.cells.specs.Written.{Writable, digit, bit-for, page-byte, written}
 use Rattle.cells.proofs.Offsets.{within}
 use Rattle.cells.proofs.ByteBits.{bit-of-byte, bit-for-small, bit-for-reads, four-digits}
 use Rattle.cells.proofs.Writing.{written-length, written-pages, written-count, written-width-high, written-width-low, written-page}
-use Rattle.cells.proofs.Checks.{counts-all, at-end}
+use Rattle.cells.proofs.Good.{good-served}
 
 -- one bit of a page's byte
 page-bit : (f : Format) (m : Cells) (p j k : ℕ) → k < 8 → bit (page-byte f m p j) k ≡ bit-for f (ltb (8 * j + k) (m .width) && m .set p (8 * j + k))
@@ -96,48 +96,24 @@ module _ (f : Format) (m : Cells) (ok : Writable f m) where
   pub read-back : Alike m (decoded f xs)
   read-back = rw decoded-is same-cells
 
-  -- the check's table, step by step
-  first-served : Served (first-rows xs)
-  first-served =
-      let n = written-length f m in
-      let e = written-pages f m in
-      (λ h. omega arith, (no-row, tt))
-    where
-      no-row : ((pages-of xs ≡ 0) ⊎ (64 < pages-of xs)) → ⊥
-      no-row (inl h) = let e = written-pages f m in omega (arith, ok .some)
-      no-row (inr h) = let e = written-pages f m in omega (arith, ok .few)
-
-  wear-served : (g : Format) → f ≡ g → Served (wear-rows g xs)
-  wear-served Fuse e = tt
-  wear-served Flash e =
-      counts-all xs (pages-of xs)
-      (λ k h.
-      let n = written-length f m in
-      let P = written-pages f m in
-      let four : count-bytes f * m .pages ≡ 4 * m .pages = ap (λ g. count-bytes g * m .pages) e in
-      let back = count-back e k (omega arith) in
-      (λ short. omega arith, (λ over. omega arith, tt)))
-
-  width-served : Served (width-rows f xs)
-  width-served =
-      let n = written-length f m in
-      let P = ap (λ q. width-at f q) (written-pages f m) in
-      (λ h. omega arith, (no-row, tt))
-    where
-      no-row : ((width-of f xs ≡ 0) ⊎ (1024 < width-of f xs)) → ⊥
-      no-row (inl h) = let e = width-back in omega (arith, ok .wide)
-      no-row (inr h) = let e = width-back in omega (arith, ok .narrow)
-
-  body-served : Served (body-rows f (m .pages) (m .width) xs)
-  body-served = let n = written-length f m in (λ h. omega arith, (no-stray, (λ h. omega arith, tt)))
-    where
-      no-stray : ((p : ℕ) × (p < m .pages) × Stray f (m .pages) (m .width) xs p) → ⊥
-      no-stray s =
-          let i = s .2 .place in
-          both-ways _
-          (bit-back (s .0) i (s .1) (s .2 .inside) ∙ and-left (ltb i (m .width)) (m .set (s .0) i) (le-ltb i (m .width) (s .2 .unused)))
-          (s .2 .reads)
+  no-stray : (p : ℕ) → p < m .pages → Stray f (m .pages) (m .width) xs p → ⊥
+  no-stray p h s =
+      let i = s .place in
+      both-ways _
+      (bit-back p i h (s .inside) ∙ and-left (ltb i (m .width)) (m .set p i) (le-ltb i (m .width) (s .unused)))
+      (s .reads)
 
   pub written-served : Served (image-rows f xs)
   written-served =
-      at-end f xs first-served (wear-served f refl) width-served (m .pages) (m .width) (sym (written-pages f m)) (sym width-back) body-served
+      good-served f (m .pages) (m .width) xs
+      (record {
+        pages = sym (written-pages f m);
+        width = sym width-back;
+        some = ok .some;
+        few = ok .few;
+        wide = ok .wide;
+        narrow = ok .narrow;
+        long = written-length f m;
+        worn = λ e p h. let back = count-back e p h in omega arith;
+        clean = no-stray;
+      })

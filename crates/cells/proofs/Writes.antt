@@ -8,7 +8,6 @@ use native.Mathlib.Omega.{arith}
 use lib.ListN.{length, getD, set, replicate}
 use borrow.Rule.Slice.PartMut.{putMid}
 use lib.Dec.{eqb, leb}
-use Rattle.std.specs.declared.result.Result.the-variants.{Ok}
 use Rattle.std.proofs.shelf.Lists.{length-set, getD-set-same, getD-set-other, length-replicate, getD-replicate}
 use Rattle.std.proofs.shelf.Tests.{cases-eq, cases-lt, not-true}
 use Rattle.cells.specs.declared.format.Format.{Format}
@@ -17,8 +16,8 @@ use Rattle.cells.specs.declared.layout.Layout.{Layout}
 use Rattle.cells.specs.Cells.{Cells, Shaped, Cell}
 use Rattle.cells.specs.Device.{Marked, Erased}
 use Rattle.cells.specs.Image.{count-bytes, bit, reads, set-bit, Sets-bit, page-bytes, pages-at, page-at, size, count-of, wear-of, cells-at, fits, part-cells}
-use Rattle.cells.specs.Bytes.{Bit-set, Page-erased, Finds}
-use Rattle.cells.proofs.Offsets.{within, same-block, same-place, byte-within, page-within, shown, part-is}
+use Rattle.cells.specs.Bytes.{Bit-set, Page-erased}
+use Rattle.cells.proofs.Offsets.{within, same-block, same-place, byte-within, page-within, part-is}
 use Rattle.cells.proofs.ByteBits.{four-digits}
 use Rattle.cells.proofs.Finite.{passes}
 use Rattle.cells.proofs.Mids.{mid-length, mid-below, mid-above, mid-inside}
@@ -47,15 +46,16 @@ module _ (f : Format) (P c p i : ℕ) (xs ys : List ℕ) (a : p < P) (b : i < c)
   wear-kept Fuse e q h = refl
   wear-kept Flash e q h = ap (min 10000) (count-same xs ys q (λ j lo hi. w .others j (λ at. let four : count-bytes f * P ≡ 4 * P = ap (λ g. count-bytes g * P) e in omega arith)))
 
-  cell-kept : (q j : ℕ) → q < P → j < c → ((q ≡ p) × (j ≡ i) → ⊥) → cells-at f P c ys .set q j ≡ cells-at f P c xs .set q j
-  cell-kept q j h k apart = go (cases-eq (page-at f P c q + j / 8) (page-at f P c p + i / 8))
+  -- every other bit of a page, unused ones too
+  pub bit-kept : (q j : ℕ) → q < P → j / 8 < page-bytes c → ((q ≡ p) × (j ≡ i) → ⊥) → cells-at f P c ys .set q j ≡ cells-at f P c xs .set q j
+  bit-kept q j h k apart = go (cases-eq (page-at f P c q + j / 8) (page-at f P c p + i / 8))
     where
       go : ((page-at f P c q + j / 8 ≡ page-at f P c p + i / 8) ⊎ (page-at f P c q + j / 8 ≡ page-at f P c p + i / 8 → ⊥)) →
           cells-at f P c ys .set q j ≡ cells-at f P c xs .set q j
       go (inl e) =
           let n = page-bytes c in
-          let block = same-block p q n (i / 8) (j / 8) (byte-within c i b) (byte-within c j k) (omega arith) in
-          let place = same-place p q n (i / 8) (j / 8) (byte-within c i b) (byte-within c j k) (omega arith) in
+          let block = same-block p q n (i / 8) (j / 8) (byte-within c i b) k (omega arith) in
+          let place = same-place p q n (i / 8) (j / 8) (byte-within c i b) k (omega arith) in
           let other : j % 8 ≡ i % 8 → ⊥ = λ same. apart (block, omega arith) in
           subst (λ m. reads f (getD ys m 0) (j % 8) ≡ reads f (getD xs m 0) (j % 8)) (sym e)
           (ap (λ z. eqb z (set-bit f)) (w .bit .others (j % 8) (omega arith) other))
@@ -66,7 +66,7 @@ module _ (f : Format) (P c p i : ℕ) (xs ys : List ℕ) (a : p < P) (b : i < c)
       record {
         shape = record { pages = refl; width = refl; limit = refl };
         here = w .bit .here;
-        others = λ q j cell apart. cell-kept q j (cell .page) (cell .cell) apart;
+        others = λ q j cell apart. bit-kept q j (cell .page) (byte-within c j (cell .cell)) apart;
         wear = λ q h. wear-kept f refl q h;
       }
 
@@ -77,16 +77,6 @@ module _ (f : Format) (l : Layout) (p i : ℕ) (xs ys : List ℕ) (e : fits f l 
   part-marked =
       let same : fits f l ys ≡ true = ap (leb (size f (l .pages) (l .width))) (w .length) ∙ e in
       rw (part-is f l xs e, part-is f l ys same) (cell-marked f (l .pages) (l .width) p i xs ys a b w)
-
--- what a mark leaves, once the byte of its cell was found and written
-pub mark-served :
-    (f : Format) (l : Layout) (xs : List ℕ) (p i at y : ℕ) → Finds f l xs p i (Ok at) → Sets-bit f (i % 8) (getD xs at 0) y →
-    Marked p i (part-cells f l xs) (part-cells f l (set xs at y)) × Bit-set f (page-at f (l .pages) (l .width) p + i / 8) (i % 8) xs (set xs at y)
-mark-served f l xs p i at y found s =
-    let one = shown (fits f l xs) (l .pages) p (omega (arith, found .0 .0)) in
-    let two = shown (fits f l xs) (l .width) i (omega (arith, found .0 .1 .0)) in
-    let here = subst (λ a. Bit-set f a (i % 8) xs (set xs at y)) (found .1) (bit-written f xs at (i % 8) y (found .3) s) in
-    (part-marked f l p i xs (set xs at y) (one .0) (one .1) (two .1) here, here)
 
 -- The bytes after a page was filled with ones and its wear count, w, written as four bytes.
 module _ (P c p at n k w : ℕ) (xs page count : List ℕ) (a : p < P) (room : size Flash P c ≤ length xs)
@@ -106,13 +96,13 @@ module _ (P c p at n k w : ℕ) (xs page count : List ℕ) (a : p < P) (room : s
   inner-same = ap length ones ∙ length-replicate n 255
 
   outer-room : 1 + 4 * p + k ≤ length zs
-  outer-room = let e = mid-length at n xs page inner-room inner-same in omega arith
+  outer-room = let e = mid-length 0 at n xs page inner-room inner-same in omega arith
 
   outer-same : length count ≡ k
   outer-same = ap length digits ∙ sym four
 
   digit : (j : ℕ) → j < k → getD ys (1 + 4 * p + j) 0 ≡ getD ((w / 16777216 % 256) ∷ ((w / 65536 % 256) ∷ ((w / 256 % 256) ∷ ((w % 256) ∷ [])))) j 0
-  digit j h = mid-inside (1 + 4 * p) k zs count outer-room outer-same j h ∙ ap (λ l. getD l j 0) digits
+  digit j h = mid-inside 0 (1 + 4 * p) k zs count outer-room outer-same j h ∙ ap (λ l. getD l j 0) digits
 
   digit-at : (j m : ℕ) → j < k → m ≡ 1 + 4 * p + j → getD ys m 0 ≡ getD ((w / 16777216 % 256) ∷ ((w / 65536 % 256) ∷ ((w / 256 % 256) ∷ ((w % 256) ∷ [])))) j 0
   digit-at j m h e = ap (λ i. getD ys i 0) e ∙ digit j h
@@ -121,28 +111,28 @@ module _ (P c p at n k w : ℕ) (xs page count : List ℕ) (a : p < P) (room : s
   outside j apart = go (cases-lt j (1 + 4 * p))
     where
       go : ((j < 1 + 4 * p) ⊎ (1 + 4 * p ≤ j)) → getD ys j 0 ≡ getD zs j 0
-      go (inl h) = mid-below (1 + 4 * p) k zs count outer-room outer-same j h
+      go (inl h) = mid-below 0 (1 + 4 * p) k zs count outer-room outer-same j h
       go (inr h) =
           let no-less : j < 5 + 4 * p → ⊥ = λ lt. apart (h, lt) in
-          mid-above (1 + 4 * p) k zs count outer-room outer-same j (omega arith)
+          mid-above 0 (1 + 4 * p) k zs count outer-room outer-same j (omega arith)
 
   outside-page : (j : ℕ) → ((page-at Flash P c p ≤ j) × (j < page-at Flash P c p + page-bytes c) → ⊥) → getD zs j 0 ≡ getD xs j 0
   outside-page j apart = go (cases-lt j at)
     where
       go : ((j < at) ⊎ (at ≤ j)) → getD zs j 0 ≡ getD xs j 0
-      go (inl h) = mid-below at n xs page inner-room inner-same j h
+      go (inl h) = mid-below 0 at n xs page inner-room inner-same j h
       go (inr h) =
           let no-less : j < page-at Flash P c p + page-bytes c → ⊥ = λ lt. apart (omega arith, lt) in
-          mid-above at n xs page inner-room inner-same j (omega arith)
+          mid-above 0 at n xs page inner-room inner-same j (omega arith)
 
   pub page-written : Page-erased P c p xs ys
   page-written =
       record {
-        length = mid-length (1 + 4 * p) k zs count outer-room outer-same ∙ mid-length at n xs page inner-room inner-same;
+        length = mid-length 0 (1 + 4 * p) k zs count outer-room outer-same ∙ mid-length 0 at n xs page inner-room inner-same;
         page = λ j h.
             outside (page-at Flash P c p + j) (λ o. let lt = o .1 in omega arith)
             ∙ ap (λ m. getD zs (m + j) 0) (sym here)
-            ∙ mid-inside at n xs page inner-room inner-same j (omega arith)
+            ∙ mid-inside 0 at n xs page inner-room inner-same j (omega arith)
             ∙ ap (λ l. getD l j 0) ones
             ∙ getD-replicate n j 255 0 (omega arith);
         count =
@@ -155,38 +145,47 @@ module _ (P c p at n k w : ℕ) (xs page count : List ℕ) (a : p < P) (room : s
         others = λ j page count. outside j count ∙ outside-page j page;
       }
 
--- no cell of a byte of ones reads as set in flash
-ones-unset : (k : ℕ) → k < 8 → reads Flash 255 k ≡ false
+-- no bit of a byte of ones reads as set in flash
+pub ones-unset : (k : ℕ) → k < 8 → reads Flash 255 k ≡ false
 ones-unset k h = not-true _ (passes (λ b. not (reads Flash 255 b)) 8 refl k h)
 
 -- The cells after an erase of page p.
-module _ (P c p : ℕ) (xs ys : List ℕ) (a : p < P) (fresh : count-of xs p < 10000) (w : Page-erased P c p xs ys) where
-  pub page-erased : Erased p (cells-at Flash P c xs) (cells-at Flash P c ys)
-  page-erased =
+module _ (P c p : ℕ) (xs ys : List ℕ) (a : p < P) (w : Page-erased P c p xs ys) where
+  -- no bit of the page reads as set, unused ones neither
+  pub bit-erased : (i : ℕ) → i / 8 < page-bytes c → cells-at Flash P c ys .set p i ≡ false
+  bit-erased i h = ap (λ x. reads Flash x (i % 8)) (w .page (i / 8) h) ∙ ones-unset (i % 8) (omega arith)
+
+  -- and every bit of another page is as it was
+  pub bit-spared : (q j : ℕ) → j / 8 < page-bytes c → (q ≡ p → ⊥) → cells-at Flash P c ys .set q j ≡ cells-at Flash P c xs .set q j
+  bit-spared q j h apart =
+      ap (λ x. reads Flash x (j % 8))
+      (w .others (page-at Flash P c q + j / 8)
+      (λ o.
+          let lo = o .0 in
+          let hi = o .1 in
+          apart (same-block p q (page-bytes c) (page-at Flash P c q + j / 8 - page-at Flash P c p) (j / 8) (omega arith) h (omega arith)))
+      (λ o. let lt = o .1 in omega arith))
+
+  pub count-spared : (q : ℕ) → q < P → (q ≡ p → ⊥) → count-of ys q ≡ count-of xs q
+  count-spared q h apart =
+      count-same xs ys q
+      (λ j lo hi.
+          w .others j (λ o. let ge = o .0 in omega arith)
+          (λ o. let ge = o .0 in let lt = o .1 in apart (omega arith)))
+
+  pub page-erased : count-of xs p < 10000 → Erased p (cells-at Flash P c xs) (cells-at Flash P c ys)
+  page-erased fresh =
       record {
         shape = record { pages = refl; width = refl; limit = refl };
-        here = λ i h. ap (λ x. reads Flash x (i % 8)) (w .page (i / 8) (byte-within c i h)) ∙ ones-unset (i % 8) (omega arith);
-        others = λ q j cell apart.
-            ap (λ x. reads Flash x (j % 8))
-            (w .others (page-at Flash P c q + j / 8)
-            (λ o. apart (other-page q (j / 8) (byte-within c j (cell .cell)) (o .0) (o .1)))
-            (λ o. let lt = o .1 in omega arith));
+        here = λ i h. bit-erased i (byte-within c i h);
+        others = λ q j cell apart. bit-spared q j (byte-within c j (cell .cell)) apart;
         worn = let e = w .count in omega arith;
-        unworn = λ q h apart.
-            ap (min 10000)
-            (count-same xs ys q (λ j lo hi. w .others j (λ o. let ge = o .0 in omega arith) (λ o. apart (other-count q j lo hi (o .0) (o .1)))));
+        unworn = λ q h apart. ap (min 10000) (count-spared q h apart);
       }
-    where
-      other-page : (q j : ℕ) → j < page-bytes c → page-at Flash P c p ≤ page-at Flash P c q + j → page-at Flash P c q + j < page-at Flash P c p + page-bytes c → q ≡ p
-      other-page q j h lo hi =
-          same-block p q (page-bytes c) (page-at Flash P c q + j - page-at Flash P c p) j (omega arith) h (omega arith)
-
-      other-count : (q j : ℕ) → 1 + 4 * q ≤ j → j < 5 + 4 * q → 1 + 4 * p ≤ j → j < 5 + 4 * p → q ≡ p
-      other-count q j lo hi lo′ hi′ = omega arith
 
 module _ (l : Layout) (p : ℕ) (xs ys : List ℕ) (e : fits Flash l xs ≡ true) (a : p < l .pages) (fresh : count-of xs p < 10000)
     (w : Page-erased (l .pages) (l .width) p xs ys) where
   pub part-erased : Erased p (part-cells Flash l xs) (part-cells Flash l ys)
   part-erased =
       let same : fits Flash l ys ≡ true = ap (leb (size Flash (l .pages) (l .width))) (w .length) ∙ e in
-      rw (part-is Flash l xs e, part-is Flash l ys same) (page-erased (l .pages) (l .width) p xs ys a fresh w)
+      rw (part-is Flash l xs e, part-is Flash l ys same) (page-erased (l .pages) (l .width) p xs ys a w fresh)

@@ -1,6 +1,6 @@
 -- Pages of cells that can only be set, and that an erase takes back a page at a time. Assumes nothing.
 use mathlib.Core.Path.{_≡_}
-use mathlib.Core.Bool.{Bool}
+use mathlib.Core.Bool.{Bool, false}
 use Prim.Native.Nat.{ℕ, _≤_, _<_}
 
 -- What a cell array means: its pages, the cells of each, which cells are set, and how often each page was erased of
@@ -28,6 +28,11 @@ pub record Alike (m n : Cells) : Type 0 where
   pub shape : Shaped m n
   pub set : (p i : ℕ) → Cell m p i → n .set p i ≡ m .set p i
   pub wear : (p : ℕ) → p < m .pages → n .wear p ≡ m .wear p
+
+-- no cell is set, and no page was ever erased
+pub record Fresh (m : Cells) : Type 0 where
+  pub unset : (p i : ℕ) → Cell m p i → m .set p i ≡ false
+  pub unworn : (p : ℕ) → p < m .pages → m .wear p ≡ 0
 
 -- the bounds of every array
 pub record Bounded (m : Cells) : Type 0 where

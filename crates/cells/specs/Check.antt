@@ -14,7 +14,7 @@ use Rattle.cells.specs.declared.format.Format.the-variants.{Fuse, Flash}
 use Rattle.cells.specs.declared.layout.Layout.{Layout}
 use Rattle.cells.specs.Rows.{Row, row, Refused, Served}
 use Rattle.cells.specs.Faults.{image-number}
-use Rattle.cells.specs.Image.{page-bytes, width-at, size, pages-of, width-of, count-of, cells-at}
+use Rattle.cells.specs.Image.{page-bytes, width-at, size, pages-of, width-of, count-of, cells-at, part-cells, decoded}
 
 -- the byte P
 abbrev pub first-rows : List ℕ → List Row
@@ -58,10 +58,20 @@ abbrev pub image-rows : Format → List ℕ → List Row
 image-rows f xs =
     first-rows xs ++ (wear-rows f xs ++ (width-rows f xs ++ body-rows f (pages-of xs) (width-of f xs) xs))
 
+-- The image xs is accepted, and l is its layout.
+abbrev pub Accepted : Format → Layout → List ℕ → Type 0
+Accepted f l xs = Served (image-rows f xs) × (l .pages ≡ pages-of xs) × (l .width ≡ width-of f xs)
+
 -- The check answers the layout that the counts show, or the first row that holds.
 abbrev pub Checks : Format → List ℕ → Result Layout ImageFault → Type 0
-Checks f xs (Ok l) = Served (image-rows f xs) × (l .pages ≡ pages-of xs) × (l .width ≡ width-of f xs)
+Checks f xs (Ok l) = Accepted f l xs
 Checks f xs (Err e) = Refused (image-rows f xs) (image-number e)
+
+-- What a part over the bytes xs means that took the layout l: what the image does, or nothing where it is refused.
+pub record Reads-as (f : Format) (xs : List ℕ) (l : Layout) : Type 0 where
+  pub layout : Served (image-rows f xs) → Accepted f l xs
+  pub accepted : Served (image-rows f xs) → part-cells f l xs ≡ decoded f xs
+  pub refused : (Served (image-rows f xs) → ⊥) → part-cells f l xs ≡ cells-at f 0 0 xs
 
 -- a step of the check that answers what holds of Q, or the first row of its own that holds
 abbrev pub Passes : List Row → {A : Type 0} → (A → Type 0) → Result A ImageFault → Type 0

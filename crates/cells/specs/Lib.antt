@@ -6,3 +6,5 @@ pub mod Image
 pub mod Bytes
 pub mod Check
 pub mod Written
+pub mod Bench
+pub mod Paired

@@ -15,6 +15,9 @@ pub trait CellArray {
     // the names of what it borrows, which no call alters
     ghost held: { Self → List GName };
 
+    // what holds of its memory as long as nothing else writes there, and what every call keeps
+    ghost intact: { Self → Type 0 };
+
     // that its meaning is within the bounds of every array
     ghost bounded: { (a : Self) → Bounded (cells a) };
 
@@ -30,6 +33,7 @@ pub trait CellArray {
 
     fn mark(&mut self, page: usize, cell: usize) -> Result<(), DeviceFault>
         ensures held { λ _. ⌜ held (now (self .exit)) ≡ held (now (self .entry)) ⌝ }
+        ensures intact { λ _. ⌜ (intact (now (self .entry)) → intact (now (self .exit))) ⌝ }
         ensures marks { λ r. ⌜ Marks page cell (cells (now (self .entry))) (cells (now (self .exit))) r ⌝ };
 }
 
@@ -41,5 +45,6 @@ pub trait Erasable: CellArray {
 
     fn erase(&mut self, page: usize) -> Result<(), DeviceFault>
         ensures held { λ _. ⌜ Self·CellArray .held (now (self .exit)) ≡ Self·CellArray .held (now (self .entry)) ⌝ }
+        ensures intact { λ _. ⌜ (Self·CellArray .intact (now (self .entry)) → Self·CellArray .intact (now (self .exit))) ⌝ }
         ensures erases { λ r. ⌜ Erases page (Self·CellArray .cells (now (self .entry))) (Self·CellArray .cells (now (self .exit))) r ⌝ };
 }

@@ -7,6 +7,7 @@ ghost use Rattle.cells.specs.declared.format.Format.the-variants.{Flash};
 ghost use Rattle.cells.specs.Device.{Looks, Marks, Erases};
 ghost use Rattle.cells.specs.Image.{count-of, part-cells};
 ghost use Rattle.cells.specs.Bytes.{Finds, Reads-wear, Marks-bytes, Erases-bytes};
+ghost use Rattle.cells.specs.Check.{Accepted};
 use crate::fault::DeviceFault;
 use crate::format::Format;
 use crate::layout::Layout;
@@ -59,6 +60,7 @@ pub(crate) fn mark(
 ) -> Result<(), DeviceFault>
     ensures marks { λ r. ⌜ Marks page cell (part-cells format layout (now (image .entry))) (part-cells format layout (now (image .exit))) r ⌝ }
     ensures bytes { λ r. ⌜ Marks-bytes format layout page cell (now (image .entry)) (now (image .exit)) r ⌝ }
+    ensures intact { λ _. ⌜ (Accepted format layout (now (image .entry)) → Accepted format layout (now (image .exit))) ⌝ }
 {
     let at = find(format, layout, image, page, cell)?;
     image[at] = format.with_set(image[at], cell % 8);
@@ -93,6 +95,7 @@ fn fill(page: &mut [u8])
 pub(crate) fn erase(layout: Layout, image: &mut [u8], page: usize) -> Result<(), DeviceFault>
     ensures erases { λ r. ⌜ Erases page (part-cells Flash layout (now (image .entry))) (part-cells Flash layout (now (image .exit))) r ⌝ }
     ensures bytes { λ r. ⌜ Erases-bytes layout page (now (image .entry)) (now (image .exit)) r ⌝ }
+    ensures intact { λ _. ⌜ (Accepted Flash layout (now (image .entry)) → Accepted Flash layout (now (image .exit))) ⌝ }
 {
     let worn = wear(layout, image, page)?;
     if worn >= LIMIT {

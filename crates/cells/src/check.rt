@@ -6,7 +6,7 @@ ghost use Prim.Native.Nat.{ℕ, _+_, _≤_, _<_};
 ghost use lib.ListN.{length};
 ghost use Rattle.std.specs.Orderings.{Decides};
 ghost use Rattle.cells.specs.Image.{reads, size, pages-of, width-of, width-at};
-ghost use Rattle.cells.specs.Check.{first-rows, counts-rows, wear-rows, width-rows, body-rows, Stray, Checks, Passes};
+ghost use Rattle.cells.specs.Check.{first-rows, counts-rows, wear-rows, width-rows, body-rows, Stray, Checks, Reads-as, Passes};
 ghost use Rattle.cells.specs.Written.{Exact, Read-back};
 use crate::bytes;
 use crate::fault::ImageFault;
@@ -22,6 +22,16 @@ impl Format {
         ensures read_back { λ _. ⌜ Read-back self (now (image .entry)) ⌝ }
     {
         self.read_layout(image)
+    }
+
+    // The layout of an accepted image, and none at all of a refused one.
+    pub(crate) fn layout_of(self, image: &[u8]) -> Layout
+        ensures { λ r. ⌜ Reads-as self (now (image .entry)) r ⌝ }
+    {
+        let Ok(layout) = self.check(image) else {
+            return Layout { pages: 0, width: 0 };
+        };
+        layout
     }
 
     // The layout that the counts show, or the first row that holds.

@@ -4,8 +4,9 @@ ghost use mathlib.Core.Path.{_≡_};
 ghost use mathlib.Core.List.{[], _∷_};
 ghost use denote.Ref.{now, name};
 ghost use Rattle.cells.specs.declared.format.Format.the-variants.{Flash};
-ghost use Rattle.cells.specs.Device.{Looks, Marks, Wears, Erases};
+ghost use Rattle.cells.specs.Device.{Marks, Erases};
 ghost use Rattle.cells.specs.Image.{part-cells, part-bounded};
+ghost use Rattle.cells.specs.Check.{Accepted, Reads-as};
 ghost use Rattle.cells.specs.Bytes.{Marks-bytes, Erases-bytes};
 use crate::array::CellArray;
 use crate::array::Erasable;
@@ -21,28 +22,26 @@ pub struct FlashPart<'a> {
 }
 
 impl<'a> FlashPart<'a> {
-    pub fn test_over(image: &'a mut [u8], layout: Layout) -> FlashPart<'a>
-        ensures a { λ r. ⌜ name (r .image) ≡ name (image .entry) ⌝ }
-        ensures b { λ r. ⌜ now (r .image) ≡ now (image .entry) ⌝ }
-        ensures c { λ r. ⌜ r .layout ≡ layout ⌝ }
+    // The part over these bytes. Where the check refuses them it has no pages and no width.
+    pub fn over(image: &'a mut [u8]) -> FlashPart<'a>
+        ensures lent { λ r. ⌜ name (r .image) ≡ name (image .entry) ⌝ }
+        ensures bytes { λ r. ⌜ now (r .image) ≡ now (image .entry) ⌝ }
+        ensures meaning { λ r. ⌜ Reads-as Flash (now (image .entry)) (r .layout) ⌝ }
     {
+        let layout = Format::Flash.layout_of(image);
         FlashPart { image, layout }
     }
 }
 
-pub fn test_use(image: &mut [u8], layout: Layout) -> Result<(), DeviceFault>
-    ensures { λ r. ⌜ Marks-bytes Flash layout 0 0 (now (image .entry)) (now (image .exit)) r ⌝ }
-{
-    let mut part = FlashPart::test_over(image, layout);
-    part.mark(0, 0)
-}
-
 pub impl CellArray for FlashPart<'_> as FlashCells {
-    ghost cells = { λ f. part-cells Flash (f .layout) (now (f .image)) };
+    ghost cells = { λ a. part-cells Flash (a .layout) (now (a .image)) };
 
-    ghost held = { λ f. name (f .image) ∷ [] };
+    ghost held = { λ a. name (a .image) ∷ [] };
 
-    ghost bounded = { λ f. part-bounded Flash (f .layout) (now (f .image)) };
+    // the image is accepted by the check, and the layout is its own
+    ghost intact = { λ a. Accepted Flash (a .layout) (now (a .image)) };
+
+    ghost bounded = { λ a. part-bounded Flash (a .layout) (now (a .image)) };
 
     fn pages(&self) -> usize {
         self.layout.over(Format::Flash, self.image).pages
@@ -58,6 +57,7 @@ pub impl CellArray for FlashPart<'_> as FlashCells {
 
     fn mark(&mut self, page: usize, cell: usize) -> Result<(), DeviceFault>
         ensures held { λ _. ⌜ name (now (self .exit) .image) ∷ [] ≡ name (now (self .entry) .image) ∷ [] ⌝ }
+        ensures intact { λ _. ⌜ (Accepted Flash (now (self .entry) .layout) (now (now (self .entry) .image)) → Accepted Flash (now (self .exit) .layout) (now (now (self .exit) .image))) ⌝ }
         ensures marks { λ r. ⌜ Marks page cell (part-cells Flash (now (self .entry) .layout) (now (now (self .entry) .image))) (part-cells Flash (now (self .exit) .layout) (now (now (self .exit) .image))) r ⌝ }
         ensures layout { λ _. ⌜ now (self .exit) .layout ≡ now (self .entry) .layout ⌝ }
         ensures bytes { λ r. ⌜ Marks-bytes Flash (now (self .entry) .layout) page cell (now (now (self .entry) .image)) (now (now (self .exit) .image)) r ⌝ }
@@ -66,13 +66,14 @@ pub impl CellArray for FlashPart<'_> as FlashCells {
     }
 }
 
-pub impl Erasable for FlashPart<'_> as FlashErases {
+pub impl Erasable for FlashPart<'_> as FlashErasable {
     fn wear(&self, page: usize) -> Result<(u32, u32), DeviceFault> {
         Ok((bytes::wear(self.layout, self.image, page)?, bytes::LIMIT))
     }
 
     fn erase(&mut self, page: usize) -> Result<(), DeviceFault>
         ensures held { λ _. ⌜ name (now (self .exit) .image) ∷ [] ≡ name (now (self .entry) .image) ∷ [] ⌝ }
+        ensures intact { λ _. ⌜ (Accepted Flash (now (self .entry) .layout) (now (now (self .entry) .image)) → Accepted Flash (now (self .exit) .layout) (now (now (self .exit) .image))) ⌝ }
         ensures erases { λ r. ⌜ Erases page (part-cells Flash (now (self .entry) .layout) (now (now (self .entry) .image))) (part-cells Flash (now (self .exit) .layout) (now (now (self .exit) .image))) r ⌝ }
         ensures layout { λ _. ⌜ now (self .exit) .layout ≡ now (self .entry) .layout ⌝ }
         ensures bytes { λ r. ⌜ Erases-bytes (now (self .entry) .layout) page (now (now (self .entry) .image)) (now (now (self .exit) .image)) r ⌝ }

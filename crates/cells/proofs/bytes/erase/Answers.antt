@@ -9,6 +9,7 @@ use Rattle.cells.specs.declared.format.Format.the-variants.{Flash}
 use Rattle.cells.specs.Image.{fits}
 use Rattle.cells.specs.Bytes.{Page-erased}
 use Rattle.cells.proofs.Writes.{page-written, part-erased}
+use Rattle.cells.proofs.Intact.{erase-intact}
 use Rattle.cells.proofs.Offsets.{page-within, shown}
 use Rattle.cells.proofs.bytes.erase.Needs as need
 
@@ -39,4 +40,5 @@ returns c =
       erases =
           ((worn .0 .0, (λ most. omega arith, tt)), part-erased l (c .args .page) (c .args .image .now) ys (there .0) (there .1) (omega arith) bytes);
       bytes = bytes;
+      intact = erase-intact l (c .args .page) (c .args .image .now) ys (there .1) (omega arith) bytes;
     }
