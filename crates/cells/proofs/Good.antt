@@ -50,7 +50,7 @@ module _ (f : Format) (xs : List ℕ) (served : Served (image-rows f xs)) where
   worn-part : f ≡ Flash → (p : ℕ) → p < P → count-of xs p ≤ 10000
   worn-part e p h =
       let rows : Served (counts-rows xs P) =
-          subst (λ g. Served (wear-rows g xs)) e (served-first (wear-rows f xs) (width-rows f xs ++ body-rows f P c xs) after-first) in
+      subst (λ g. Served (wear-rows g xs)) e (served-first (wear-rows f xs) (width-rows f xs ++ body-rows f P c xs) after-first) in
       omega (arith, counts-each xs P rows p h .1 .0)
 
   pub served-good : Good f P c xs
@@ -84,11 +84,11 @@ module _ (f : Format) (P c : ℕ) (xs : List ℕ) (good : Good f P c xs) where
   wear-served Flash e =
       counts-all xs (pages-of xs)
       (λ k h.
-          let n = good .long in
-          let same = good .pages in
-          let four : count-bytes f * P ≡ 4 * P = ap (λ g. count-bytes g * P) e in
-          let kept = good .worn e k (omega arith) in
-          (λ short. omega arith, (λ over. omega arith, tt)))
+      let n = good .long in
+      let same = good .pages in
+      let four : count-bytes f * P ≡ 4 * P = ap (λ g. count-bytes g * P) e in
+      let kept = good .worn e k (omega arith) in
+      (λ short. omega arith, (λ over. omega arith, tt)))
 
   width-served : Served (width-rows f xs)
   width-served =

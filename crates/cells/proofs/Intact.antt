@@ -37,24 +37,27 @@ module _ (f : Format) (l : Layout) (xs ys : List ℕ) (was : Good f (l .pages) (
       let high = same-width (width-at f (l .pages)) (omega arith) (omega arith) in
       let low = same-width (width-at f (l .pages) + 1) (omega arith) (omega arith) in
       let shown : l .width ≡ getD xs (width-at f (l .pages)) 0 * 256 + getD xs (width-at f (l .pages) + 1) 0 =
-          was .width ∙ ap (λ P. getD xs (width-at f P) 0 * 256 + getD xs (width-at f P + 1) 0) (sym (was .pages)) in
+      was .width ∙ ap (λ P. getD xs (width-at f P) 0 * 256 + getD xs (width-at f P + 1) 0) (sym (was .pages)) in
       let now : l .width ≡ getD ys (width-at f (l .pages)) 0 * 256 + getD ys (width-at f (l .pages) + 1) 0 = omega arith in
       now ∙ ap (λ P. getD ys (width-at f P) 0 * 256 + getD ys (width-at f P + 1) 0) (was .pages ∙ sym same-pages)
 
   pub still-accepted : Accepted f l ys
-  still-accepted =
-      (good-served f (l .pages) (l .width) ys
-      (record {
-        pages = was .pages ∙ sym same-pages;
-        width = width-kept;
-        some = was .some;
-        few = was .few;
-        wide = was .wide;
-        narrow = was .narrow;
-        long = same-length ∙ was .long;
-        worn = worn;
-        clean = clean;
-      }), was .pages ∙ sym same-pages, width-kept)
+  still-accepted = (
+    good-served f (l .pages) (l .width) ys
+        (record {
+          pages = was .pages ∙ sym same-pages;
+          width = width-kept;
+          some = was .some;
+          few = was .few;
+          wide = was .wide;
+          narrow = was .narrow;
+          long = same-length ∙ was .long;
+          worn = worn;
+          clean = clean;
+        }),
+    was .pages ∙ sym same-pages,
+    width-kept,
+  )
 
 -- a mark
 module _ (f : Format) (l : Layout) (p i : ℕ) (xs ys : List ℕ) (a : p < l .pages) (b : i < l .width)
@@ -64,22 +67,22 @@ module _ (f : Format) (l : Layout) (p i : ℕ) (xs ys : List ℕ) (a : p < l .pa
       let good = layout-good f l xs was in
       still-accepted f l xs ys good (w .length) (w .others 0 (λ at. omega arith)) (λ j lo hi. w .others j (λ at. omega arith))
       (λ e q h.
-          let four : count-bytes f * l .pages ≡ 4 * l .pages = ap (λ g. count-bytes g * l .pages) e in
-          let kept = good .worn e q h in
-          let same = count-same xs ys q (λ j lo hi. w .others j (λ at. omega arith)) in
-          omega arith)
+      let four : count-bytes f * l .pages ≡ 4 * l .pages = ap (λ g. count-bytes g * l .pages) e in
+      let kept = good .worn e q h in
+      let same = count-same xs ys q (λ j lo hi. w .others j (λ at. omega arith)) in
+      omega arith)
       (λ q h s.
-          let unused = s .unused in
-          let inside = s .inside in
-          good .clean q h
-          (record {
-            place = s .place;
-            unused = s .unused;
-            inside = s .inside;
-            reads =
-                sym (bit-kept f (l .pages) (l .width) p i xs ys a b w q (s .place) h (omega arith) (λ here. let same = here .1 in omega arith))
-                ∙ s .reads;
-          }))
+      let unused = s .unused in
+      let inside = s .inside in
+      good .clean q h
+      (record {
+        place = s .place;
+        unused = s .unused;
+        inside = s .inside;
+        reads =
+            sym (bit-kept f (l .pages) (l .width) p i xs ys a b w q (s .place) h (omega arith) (λ here. let same = here .1 in omega arith))
+            ∙ s .reads;
+      }))
 
 -- an erase
 module _ (l : Layout) (p : ℕ) (xs ys : List ℕ) (a : p < l .pages) (fresh : count-of xs p < 10000)

@@ -12,3 +12,5 @@ pub mod ReadBack
 pub mod Accepted
 pub mod Intact
 pub mod BenchPart
+pub mod Sizes
+pub mod Blank

@@ -161,17 +161,17 @@ module _ (P c p : ℕ) (xs ys : List ℕ) (a : p < P) (w : Page-erased P c p xs 
       ap (λ x. reads Flash x (j % 8))
       (w .others (page-at Flash P c q + j / 8)
       (λ o.
-          let lo = o .0 in
-          let hi = o .1 in
-          apart (same-block p q (page-bytes c) (page-at Flash P c q + j / 8 - page-at Flash P c p) (j / 8) (omega arith) h (omega arith)))
+      let lo = o .0 in
+      let hi = o .1 in
+      apart (same-block p q (page-bytes c) (page-at Flash P c q + j / 8 - page-at Flash P c p) (j / 8) (omega arith) h (omega arith)))
       (λ o. let lt = o .1 in omega arith))
 
   pub count-spared : (q : ℕ) → q < P → (q ≡ p → ⊥) → count-of ys q ≡ count-of xs q
   count-spared q h apart =
       count-same xs ys q
       (λ j lo hi.
-          w .others j (λ o. let ge = o .0 in omega arith)
-          (λ o. let ge = o .0 in let lt = o .1 in apart (omega arith)))
+      w .others j (λ o. let ge = o .0 in omega arith)
+      (λ o. let ge = o .0 in let lt = o .1 in apart (omega arith)))
 
   pub page-erased : count-of xs p < 10000 → Erased p (cells-at Flash P c xs) (cells-at Flash P c ys)
   page-erased fresh =

@@ -8,3 +8,5 @@ pub mod Check
 pub mod Written
 pub mod Bench
 pub mod Paired
+pub mod Fresh
+pub mod Listing

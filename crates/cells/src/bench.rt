@@ -11,8 +11,11 @@ use crate::array::Erasable;
 use crate::fault::DeviceFault;
 
 const PAGES: usize = 2;
+
 const WIDTH: usize = 64;
+
 const CELLS: usize = 128;
+
 const LIMIT: u32 = 3;
 
 #[derive(Drop)]
@@ -52,7 +55,10 @@ pub impl CellArray for Bench as BenchCells {
 
     fn look(&self, page: usize, cell: usize) -> Result<bool, DeviceFault> {
         if page >= PAGES {
-            return Err(DeviceFault::NoPage { page, cell: Some(cell) });
+            return Err(DeviceFault::NoPage {
+                page,
+                cell: Some(cell),
+            });
         }
         if cell >= WIDTH {
             return Err(DeviceFault::NoCell { page, cell });
@@ -62,7 +68,10 @@ pub impl CellArray for Bench as BenchCells {
 
     fn mark(&mut self, page: usize, cell: usize) -> Result<(), DeviceFault> {
         if page >= PAGES {
-            return Err(DeviceFault::NoPage { page, cell: Some(cell) });
+            return Err(DeviceFault::NoPage {
+                page,
+                cell: Some(cell),
+            });
         }
         if cell >= WIDTH {
             return Err(DeviceFault::NoCell { page, cell });

@@ -1,7 +1,9 @@
 // Faults: why a call on a cell array was refused, and why an image was.
 // Each stands for one number of the table of refusals.
 ghost use mathlib.Core.Path.{_≡_};
+ghost use Rattle.cells.specs.declared.fault.MakingFault.the-variants.{Image, NoMemory};
 ghost use Rattle.cells.specs.Faults.{device-number, image-number};
+use std::alloc::AllocError;
 
 // A refused call, with the page and, where the call named one, the cell.
 #[derive(Clone, Copy, PartialEq, Debug)]
@@ -52,5 +54,28 @@ impl ImageFault {
             ImageFault::Stray => 14,
             ImageFault::Wear => 15,
         }
+    }
+}
+
+// Why there is no fresh image, or no listing of one.
+#[derive(Clone, Copy, PartialEq, Debug)]
+pub enum MakingFault {
+    Image(ImageFault),
+    NoMemory,
+}
+
+pub impl From<ImageFault> for MakingFault as MakingFromImage {
+    ghost converts = { λ e r. r ≡ Image e };
+
+    fn from(fault: ImageFault) -> MakingFault {
+        MakingFault::Image(fault)
+    }
+}
+
+pub impl From<AllocError> for MakingFault as MakingFromAlloc {
+    ghost converts = { λ _ r. r ≡ NoMemory };
+
+    fn from(_: AllocError) -> MakingFault {
+        MakingFault::NoMemory
     }
 }

@@ -2,12 +2,15 @@
 // that stand behind the interfaces.
 pub mod array;
 pub mod bench;
-pub mod bytes;
+mod bytes;
 mod check;
 pub mod fault;
 pub mod flash;
 pub mod format;
+pub mod fresh;
 pub mod fuse;
 pub mod layout;
+pub mod listing;
 pub mod paired;
 mod places;
+pub mod report;

@@ -35,7 +35,10 @@ impl<A: CellArray> Paired<A> {
         ensures { λ r. ⌜ Places (A·CellArray .cells (now (self .entry) .array)) page cell r ⌝ }
     {
         if page >= self.array.pages() {
-            return Err(DeviceFault::NoPage { page, cell: Some(cell) });
+            return Err(DeviceFault::NoPage {
+                page,
+                cell: Some(cell),
+            });
         }
         if cell >= self.array.width() / 2 {
             return Err(DeviceFault::NoCell { page, cell });

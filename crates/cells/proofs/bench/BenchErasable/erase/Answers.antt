@@ -17,10 +17,11 @@ returns c =
     record {
       held = refl;
       intact = λ _. tt;
-      erases =
-          (search needs,
-          bench-erased (c .args .self .now .set) (c .unset-all .last .page) (c .args .self .now .worn) (c .args .page) k (c .in-Continue-worn .worn)
-          (omega (arith, asked .0 .0)) cells pages (omega arith)
-          (c .unset-all .ensures ∙ ap (λ n. replicate n false) (length-between (c .args .self .now .set) _ _ (omega (arith, asked .0 .0))))
-          (asked .1) (omega (arith, asked .2)));
+      erases = (
+        search needs,
+        bench-erased (c .args .self .now .set) (c .unset-all .last .page) (c .args .self .now .worn) (c .args .page) k (c .in-Continue-worn .worn)
+            (omega (arith, asked .0 .0)) cells pages (omega arith)
+            (c .unset-all .ensures ∙ ap (λ n. replicate n false) (length-between (c .args .self .now .set) _ _ (omega (arith, asked .0 .0))))
+            (asked .1) (omega (arith, asked .2)),
+      );
     }

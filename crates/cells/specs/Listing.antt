@@ -1,0 +1,40 @@
+-- What a listing of an image says. Assumes nothing.
+use mathlib.Core.Path.{_≡_}
+use mathlib.Core.Bool.{Bool, cond}
+use mathlib.Core.List.{List, map}
+use Prim.Native.Nat.{ℕ, zero, suc, _+_}
+use Rattle.std.specs.Iters.{counting}
+use Rattle.std.specs.Of.Vec.{vec-items}
+use Rattle.std.specs.declared.result.Result.{Result}
+use Rattle.std.specs.declared.result.Result.the-variants.{Ok, Err}
+use Rattle.cells.specs.declared.fault.MakingFault.{MakingFault}
+use Rattle.cells.specs.declared.fault.MakingFault.the-variants.{Image, NoMemory}
+use Rattle.cells.specs.declared.format.Format.the-variants.{Flash}
+use Rattle.cells.specs.declared.report.PageReport.{PageReport}
+use Rattle.cells.specs.declared.report.Listing.{Listing}
+use Rattle.cells.specs.Cells.{Cells}
+use Rattle.cells.specs.Rows.{Refused, Served}
+use Rattle.cells.specs.Faults.{image-number}
+use Rattle.cells.specs.Image.{decoded}
+use Rattle.cells.specs.Check.{image-rows}
+
+-- how many of the numbers below n are in s
+unfoldable pub size-below : (ℕ → Bool) → ℕ → ℕ
+size-below s zero = 0
+size-below s (suc i) = cond (s i) (1 + size-below s i) (size-below s i)
+
+-- the wear of page p, and how many of its cells are set
+abbrev pub page-report : Cells → ℕ → PageReport
+page-report m p = record { wear = m .wear p; set = size-below (m .set p) (m .width) }
+
+-- one for each page, in order
+abbrev pub page-reports : Cells → List PageReport
+page-reports m = map (page-report m) (counting 0 (m .pages))
+
+-- The listing of the flash image xs says what the image means; a refused image is refused by the first row that holds.
+abbrev pub Lists : List ℕ → Result Listing MakingFault → Type 0
+Lists xs (Ok l) =
+    Served (image-rows Flash xs) × (l .pages ≡ decoded Flash xs .pages) × (l .width ≡ decoded Flash xs .width)
+    × (vec-items (l .reports) ≡ page-reports (decoded Flash xs))
+Lists xs (Err (Image e)) = Refused (image-rows Flash xs) (image-number e)
+Lists xs (Err NoMemory) = Served (image-rows Flash xs)

@@ -1,0 +1,4 @@
+pub mod Numbered
+pub mod Modulo
+pub mod Xor
+pub mod Pairs

@@ -1,0 +1,5 @@
+pub mod Group
+pub mod Numbered
+pub mod Integers
+pub mod Vectors
+pub mod Product
