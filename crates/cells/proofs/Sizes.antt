@@ -4,9 +4,9 @@ use mathlib.Core.Bool.{Bool, true, false, cond}
 use Prim.Native.Nat.{ℕ, zero, suc, _+_, _≤_}
 use native.Mathlib.Numerals.{add-one}
 use native.Mathlib.Omega.{arith}
-use Rattle.cells.specs.Listing.{size-below}
+use Rattle.cells.specs.Sets.{Cellset, size-below}
 
-module _ (s : ℕ → Bool) where
+module _ (s : Cellset) where
   pub size-none : size-below s 0 ≡ 0
   unfolding size-below
   size-none = refl

@@ -1,4 +1,5 @@
 pub mod Cells
+pub mod Sets
 pub mod Rows
 pub mod Faults
 pub mod Device

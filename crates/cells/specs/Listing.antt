@@ -1,8 +1,7 @@
 -- What a listing of an image says. Assumes nothing.
 use mathlib.Core.Path.{_≡_}
-use mathlib.Core.Bool.{Bool, cond}
 use mathlib.Core.List.{List, map}
-use Prim.Native.Nat.{ℕ, zero, suc, _+_}
+use Prim.Native.Nat.{ℕ}
 use Rattle.std.specs.Iters.{counting}
 use Rattle.std.specs.Of.Vec.{vec-items}
 use Rattle.std.specs.declared.result.Result.{Result}
@@ -13,15 +12,11 @@ use Rattle.cells.specs.declared.format.Format.the-variants.{Flash}
 use Rattle.cells.specs.declared.report.PageReport.{PageReport}
 use Rattle.cells.specs.declared.report.Listing.{Listing}
 use Rattle.cells.specs.Cells.{Cells}
+use Rattle.cells.specs.Sets.{size-below}
 use Rattle.cells.specs.Rows.{Refused, Served}
 use Rattle.cells.specs.Faults.{image-number}
 use Rattle.cells.specs.Image.{decoded}
 use Rattle.cells.specs.Check.{image-rows}
-
--- how many of the numbers below n are in s
-unfoldable pub size-below : (ℕ → Bool) → ℕ → ℕ
-size-below s zero = 0
-size-below s (suc i) = cond (s i) (1 + size-below s i) (size-below s i)
 
 -- the wear of page p, and how many of its cells are set
 abbrev pub page-report : Cells → ℕ → PageReport

@@ -20,7 +20,11 @@ fn main(rt: LibcRuntime) -> io::Result<()> {
 }
 
 fn print_listing(rt: &LibcRuntime, listing: Listing) -> io::Result<()> {
-    let Listing { pages, width, reports } = listing;
+    let Listing {
+        pages,
+        width,
+        reports,
+    } = listing;
     println!(rt, "pages {pages}")?;
     println!(rt, "width {width}")?;
     for (page, report) in reports.iter().enumerate() {

@@ -1,5 +1,5 @@
 use mathlib.Core.Path.{_≡_}
-use Rattle.cells.specs.Listing.{size-below}
+use Rattle.cells.specs.Sets.{size-below}
 use Rattle.cells.proofs.listing.count_set.Given as given
 
 abbrev pub Inv-loop-cell : given.InvT-loop-cell
