@@ -1,16 +1,4 @@
 pub mod Finite
-pub mod Bits
-pub mod Tables
-pub mod Checks
-pub mod Good
-pub mod Offsets
 pub mod Mids
-pub mod Writes
-pub mod ByteBits
-pub mod Writing
-pub mod ReadBack
-pub mod Accepted
-pub mod Intact
 pub mod BenchPart
 pub mod Sizes
-pub mod Blank

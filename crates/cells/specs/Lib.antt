@@ -3,11 +3,5 @@ pub mod Sets
 pub mod Rows
 pub mod Faults
 pub mod Device
-pub mod Image
-pub mod Bytes
-pub mod Check
-pub mod Written
 pub mod Bench
 pub mod Paired
-pub mod Fresh
-pub mod Listing

@@ -2,7 +2,7 @@
 // It can be erased where the array below can.
 ghost use mathlib.Core.Path.{_≡_};
 ghost use Prim.Native.Nat.{_*_};
-ghost use Rattle.cells.specs.Device.{Marks};
+ghost use Rattle.cells.specs.Device.{Marks, Erases};
 ghost use Rattle.cells.specs.Paired.{paired-cells, paired-bounded, Marks-both, Places};
 use crate::array::CellArray;
 use crate::array::Erasable;
@@ -89,7 +89,12 @@ pub impl<A: Erasable> Erasable for Paired<A> as PairedErasable {
         self.array.wear(page)
     }
 
-    fn erase(&mut self, page: usize) -> Result<(), DeviceFault> {
+    fn erase(&mut self, page: usize) -> Result<(), DeviceFault>
+        ensures held { λ _. ⌜ A·CellArray .held (now (self .exit) .array) ≡ A·CellArray .held (now (self .entry) .array) ⌝ }
+        ensures intact { λ _. ⌜ (A·CellArray .intact (now (self .entry) .array) → A·CellArray .intact (now (self .exit) .array)) ⌝ }
+        ensures erases { λ r. ⌜ Erases page (paired-cells (A·CellArray .cells (now (self .entry) .array))) (paired-cells (A·CellArray .cells (now (self .exit) .array))) r ⌝ }
+        ensures below { λ r. ⌜ Erases page (A·CellArray .cells (now (self .entry) .array)) (A·CellArray .cells (now (self .exit) .array)) r ⌝ }
+    {
         self.array.erase(page)
     }
 }

@@ -1,7 +1,7 @@
 // The number of each fault.
 // The other tests name the faults, and so lean on this one for the numbers.
 use cells::fault::DeviceFault;
-use cells::fault::ImageFault;
+use images::fault::ImageFault;
 use std::test::*;
 
 #[test]

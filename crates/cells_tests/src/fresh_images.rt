@@ -1,14 +1,14 @@
 // Fresh flash images, and the listing of a flash image.
 // Lengths and counts are reckoned by hand from the layout of an image.
 use crate::images::FLASH;
-use cells::fault::ImageFault;
-use cells::fault::ImageFaultDebug;
-use cells::fault::MakingFault;
-use cells::fault::MakingFaultDebug;
-use cells::fault::MakingFaultPartialEq;
-use cells::format::Format;
-use cells::fresh::fresh_flash;
-use cells::listing::list_flash;
+use images::fault::ImageError;
+use images::fault::ImageErrorDebug;
+use images::fault::ImageErrorPartialEq;
+use images::fault::ImageFault;
+use images::fault::ImageFaultDebug;
+use images::format::Format;
+use images::fresh::fresh_flash;
+use listing::listing::list_flash;
 use std::test::*;
 
 #[test]
@@ -60,7 +60,7 @@ fn fresh_images_past_the_bounds_are_refused(rt: LibcRuntime) -> Result<(), Fail>
     for (pages, width, fault) in cases {
         check_eq(
             fresh_flash(rt.alloc(), pages, width),
-            Err(MakingFault::Image(fault)),
+            Err(ImageError::Image(fault)),
         )?;
     }
     Ok(())
@@ -115,7 +115,7 @@ fn a_listing_of_refused_bytes_is_the_fault(rt: LibcRuntime) -> Result<(), Fail> 
         let mut image = bytes.to_vec(rt.alloc())?;
         check_eq(
             list_flash(rt.alloc(), &mut image).err(),
-            Some(MakingFault::Image(fault)),
+            Some(ImageError::Image(fault)),
         )?;
         check_eq(image, bytes).note("nothing is altered")?;
     }

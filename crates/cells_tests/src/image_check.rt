@@ -3,11 +3,11 @@
 use crate::images::FLASH;
 use crate::images::FUSE;
 use crate::images::unset_image;
-use cells::fault::ImageFault;
-use cells::fault::ImageFaultDebug;
-use cells::fault::ImageFaultPartialEq;
-use cells::format::Format;
-use cells::format::FormatDebug as _;
+use images::fault::ImageFault;
+use images::fault::ImageFaultDebug;
+use images::fault::ImageFaultPartialEq;
+use images::format::Format;
+use images::format::FormatDebug as _;
 use std::test::*;
 
 // The pages and the width of a good image, or why it is refused.

@@ -10,11 +10,11 @@ use cells::array::Erasable;
 use cells::fault::DeviceFault;
 use cells::fault::DeviceFaultDebug;
 use cells::fault::DeviceFaultPartialEq;
-use cells::flash::FlashCells;
-use cells::flash::FlashErasable;
-use cells::flash::FlashPart;
-use cells::fuse::FuseBank;
-use cells::fuse::FuseCells;
+use images::flash::FlashCells;
+use images::flash::FlashErasable;
+use images::flash::FlashPart;
+use images::fuse::FuseBank;
+use images::fuse::FuseCells;
 use std::test::*;
 
 // The image after a mark, and the answer.

@@ -1,7 +1,7 @@
 // Images that the tests begin with.
 // FLASH and FUSE hold the same cells: in 2 pages of 12, the cells 0 and 9 of page 0 and 2, 3 and 11 of page 1.
-use cells::format::Format;
-use cells::format::FormatPartialEq;
+use images::format::Format;
+use images::format::FormatPartialEq;
 use std::alloc::AllocError;
 use std::alloc::Global;
 

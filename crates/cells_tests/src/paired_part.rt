@@ -13,14 +13,14 @@ use cells::bench::BenchErasable;
 use cells::fault::DeviceFault;
 use cells::fault::DeviceFaultDebug;
 use cells::fault::DeviceFaultPartialEq;
-use cells::flash::FlashCells;
-use cells::flash::FlashErasable;
-use cells::flash::FlashPart;
-use cells::fuse::FuseBank;
-use cells::fuse::FuseCells;
 use cells::paired::Paired;
 use cells::paired::PairedCells;
 use cells::paired::PairedErasable;
+use images::flash::FlashCells;
+use images::flash::FlashErasable;
+use images::flash::FlashPart;
+use images::fuse::FuseBank;
+use images::fuse::FuseCells;
 use std::test::*;
 
 // Over two pages of 12 cells, as FUSE has them: marks of cell 3 of page 0 and of cell 5 of page 1, which is set already.

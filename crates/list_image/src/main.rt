@@ -1,8 +1,8 @@
 // Lists the flash image on standard input: its pages, its width, and for each page its wear and how many of its cells
 // are set. Of a refused image it prints the number of the refusal.
-use cells::fault::MakingFault;
-use cells::listing::list_flash;
-use cells::report::Listing;
+use images::fault::ImageError;
+use listing::listing::list_flash;
+use listing::report::Listing;
 use std::io;
 use std::io::Read;
 
@@ -11,11 +11,11 @@ fn main(rt: LibcRuntime) -> io::Result<()> {
     rt.stdin().read_to_end(&mut image)?;
     match list_flash(rt.alloc(), &mut image) {
         Ok(listing) => print_listing(&rt, listing),
-        Err(MakingFault::Image(fault)) => {
+        Err(ImageError::Image(fault)) => {
             let number = fault.number();
             println!(rt, "refused {number}")
         }
-        Err(MakingFault::NoMemory) => Err(io::ErrorKind::OutOfMemory.into()),
+        Err(ImageError::NoMemory) => Err(io::ErrorKind::OutOfMemory.into()),
     }
 }
 

@@ -1,8 +1,0 @@
-use native.Mathlib.Omega.{arith}
-use Rattle.cells.proofs.Blank.{counts-pass, fresh-image}
-use Rattle.cells.proofs.fresh.fresh_flash.Needs as need
-
-pub returns : need.returns
-returns c =
-    let served = counts-pass (c .args .pages) (c .args .width) (omega arith) (omega arith) (omega arith) (omega arith) in
-    (served, fresh-image (c .args .pages) (c .args .width) served _ (c .in-Continue-unset-image .ensures tt))

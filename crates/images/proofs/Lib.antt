@@ -1,0 +1,12 @@
+pub mod Bits
+pub mod Tables
+pub mod Checks
+pub mod Good
+pub mod Offsets
+pub mod ByteBits
+pub mod Writes
+pub mod Writing
+pub mod ReadBack
+pub mod Accepted
+pub mod Intact
+pub mod Blank
