@@ -1,0 +1,10 @@
+pub mod Totals
+pub mod TwoCells
+pub mod Geometry
+pub mod Effects
+pub mod Values
+pub mod PerErase
+pub mod Promised
+pub mod Subsets
+pub mod Worked
+pub mod Sampled

@@ -1,0 +1,105 @@
+-- What get, put and renew refuse, and what they do where they serve. Assumes nothing.
+use mathlib.Core.Path.{_≡_}
+use mathlib.Core.Bool.{Bool, false, cond, _||_}
+use mathlib.Core.List.{List, [], _∷_}
+use Prim.Native.Nat.{ℕ, zero, suc, _+_, _*_, _≤_, _<_}
+use lib.Dec.{eqb}
+use Rattle.std.specs.declared.option.Option.the-variants.{None}
+use Rattle.std.specs.declared.result.Result.{Result}
+use Rattle.std.specs.declared.result.Result.the-variants.{Ok, Err}
+use Rattle.calls.specs.declared.call.Call.{Call}
+use Rattle.calls.specs.declared.call.Call.the-variants.{Get, Put, Renew}
+use Rattle.calls.specs.declared.fault.StoreFault.{StoreFault}
+use Rattle.group.specs.Group.{step}
+use Rattle.cells.specs.Cells.{Cells, Shaped, Cell}
+use Rattle.cells.specs.Rows.{Row, row, Refused, Served}
+use Rattle.cells.specs.Sets.{Cellset}
+use Rattle.coset.specs.Code.{Code, every, size-of, Reachable, Unreachable, Plan}
+use Rattle.calls.specs.Records.{records, per-page, page-of, Within, held, free, value}
+use Rattle.calls.specs.declared.fault.StoreFault.the-variants.{NoRecord, NoValue, Full, Fits, Unreached, Device}
+use Rattle.calls.specs.declared.ledger.Ledger.{Ledger}
+use Rattle.calls.specs.Faults.{number}
+use Rattle.cells.specs.Device.{Names}
+use Rattle.calls.specs.Ledger.{noted}
+
+-- the record that a call names
+abbrev pub names : Call → ℕ
+names (Get k) = k
+names (Put k x) = k
+names (Renew k x) = k
+
+-- The checks of a call that finds the cells m, in their order.
+abbrev pub rows : Code → Cells → Call → List Row
+rows c m (Get k) = row 40 (records c m ≤ k) ∷ []
+rows c m (Put k x) =
+    row 40 (records c m ≤ k) ∷
+    (row 41 (c .group .order ≤ x) ∷
+    (row 42 (Unreachable c (free c m k) (step (c .group) (value c m k) x)) ∷ []))
+rows c m (Renew k x) =
+    row 40 (records c m ≤ k) ∷
+    (row 41 (c .group .order ≤ x) ∷
+    (row 43 (Reachable c (free c m k) (step (c .group) (value c m k) x)) ∷
+    (row 44 (Unreachable c every x) ∷
+    (row 22 (m .limit ≤ m .wear (page-of c m k)) ∷ []))))
+
+-- The cells of s are set in record k, and no others; all else is as it was.
+pub record Sets (c : Code) (k : ℕ) (s : Cellset) (before after : Cells) : Type 0 where
+  pub shape : Shaped before after
+  pub here : (i : ℕ) → i < c .cells → held c after k i ≡ (held c before k i || s i)
+  pub others : (p j : ℕ) → Cell before p j → (Within c before k p j → ⊥) → after .set p j ≡ before .set p j
+  pub wear : (p : ℕ) → p < before .pages → after .wear p ≡ before .wear p
+
+-- how many cells the sets 0 to b - 1 have together
+unfoldable pub sizes : Code → (ℕ → Cellset) → ℕ → ℕ
+sizes c plans zero = 0
+sizes c plans (suc b) = size-of c (plans b) + sizes c plans b
+
+-- what record k is to hold after a renewal of the record `named` to x
+abbrev pub renewed-value : Code → Cells → ℕ → ℕ → ℕ → ℕ
+renewed-value c before named x k = cond (eqb k named) x (value c before k)
+
+-- The page of record k was erased, and then each of its records written from empty by a plan, record k for x
+-- and any other for the value that it held.
+pub record Renewed (c : Code) (k x : ℕ) (before after : Cells) (marked : ℕ) : Type 0 where
+  pub shape : Shaped before after
+  -- plans r is that of the page's record r
+  pub plans : ℕ → Cellset
+  pub planned : (r : ℕ) → r < per-page c before → Plan c every (renewed-value c before k x (page-of c before k * per-page c before + r)) (plans r)
+  pub written : (r i : ℕ) → r < per-page c before → i < c .cells → after .set (page-of c before k) (r * c .cells + i) ≡ plans r i
+  pub beyond : (j : ℕ) → per-page c before * c .cells ≤ j → j < before .width → after .set (page-of c before k) j ≡ false
+  pub others : (p j : ℕ) → Cell before p j → (p ≡ page-of c before k → ⊥) → after .set p j ≡ before .set p j
+  pub worn : after .wear (page-of c before k) ≡ before .wear (page-of c before k) + 1
+  pub unworn : (p : ℕ) → p < before .pages → (p ≡ page-of c before k → ⊥) → after .wear p ≡ before .wear p
+  pub counted : marked ≡ sizes c plans (per-page c before)
+
+-- What a call that no row refuses answers, and does to the cells.
+abbrev pub Serves : Code → Call → ℕ → Cells → Cells → Type 0
+Serves c (Get k) r before after = (r ≡ value c before k) × (after ≡ before)
+Serves c (Put k x) r before after =
+    (s : Cellset) × Plan c (free c before k) (step (c .group) (value c before k) x) s × Sets c k s before after × (r ≡ size-of c s)
+Serves c (Renew k x) r before after = Renewed c k x before after r
+
+-- What a call alters: the cells with their wear, and the ledger.
+pub record State : Type 0 where
+  pub cells : Cells
+  pub ledger : Ledger
+
+abbrev pub Answer : Type 0
+Answer = Result ℕ StoreFault
+
+-- the fault names record k, and where it holds a device's fault that names the page p
+abbrev pub Places : StoreFault → ℕ → ℕ → Type 0
+Places (NoRecord j) k p = j ≡ k
+Places (NoValue j) k p = j ≡ k
+Places (Full j) k p = j ≡ k
+Places (Fits j) k p = j ≡ k
+Places (Unreached j) k p = j ≡ k
+Places (Device j f) k p = (j ≡ k) × Names f p None
+
+-- A call is refused by the first row that holds, and then alters nothing; where none holds it is served.
+abbrev pub Obeys : Code → Call → Answer → State → State → Type 0
+Obeys c call (Ok r) before after =
+    Served (rows c (before .cells) call) × Serves c call r (before .cells) (after .cells)
+    × (after .ledger ≡ noted call (value c (before .cells) (names call)) r (before .ledger))
+Obeys c call (Err f) before after =
+    Refused (rows c (before .cells) call) (number f) × Places f (names call) (page-of c (before .cells) (names call)) × (after ≡ before)
