@@ -1,4 +1,5 @@
--- What get, put and renew refuse, and what they do where they serve. Assumes nothing.
+-- The rules of one call: when a get, a put or a renewal is refused, and what it answers and alters otherwise.
+-- Assumes nothing.
 use mathlib.Core.Path.{_≡_}
 use mathlib.Core.Bool.{Bool, false, cond, _||_}
 use mathlib.Core.List.{List, [], _∷_}
@@ -22,13 +23,13 @@ use Rattle.calls.specs.Faults.{number}
 use Rattle.cells.specs.Device.{Names}
 use Rattle.calls.specs.Ledger.{noted}
 
--- the record that a call names
+-- which record a call is about
 abbrev pub names : Call → ℕ
 names (Get k) = k
 names (Put k x) = k
 names (Renew k x) = k
 
--- The checks of a call that finds the cells m, in their order.
+-- What refuses a call that finds the cells as in m, in the order of the checks.
 abbrev pub rows : Code → Cells → Call → List Row
 rows c m (Get k) = row 40 (records c m ≤ k) ∷ []
 rows c m (Put k x) =
@@ -42,27 +43,27 @@ rows c m (Renew k x) =
     (row 44 (Unreachable c every x) ∷
     (row 22 (m .limit ≤ m .wear (page-of c m k)) ∷ []))))
 
--- The cells of s are set in record k, and no others; all else is as it was.
+-- In record k the cells of s are now set too. No other cell has changed, and no wear count.
 pub record Sets (c : Code) (k : ℕ) (s : Cellset) (before after : Cells) : Type 0 where
   pub shape : Shaped before after
   pub here : (i : ℕ) → i < c .cells → held c after k i ≡ (held c before k i || s i)
   pub others : (p j : ℕ) → Cell before p j → (Within c before k p j → ⊥) → after .set p j ≡ before .set p j
   pub wear : (p : ℕ) → p < before .pages → after .wear p ≡ before .wear p
 
--- how many cells the sets 0 to b - 1 have together
+-- the sizes of the first b sets, added up
 unfoldable pub sizes : Code → (ℕ → Cellset) → ℕ → ℕ
 sizes c plans zero = 0
 sizes c plans (suc b) = size-of c (plans b) + sizes c plans b
 
--- what record k is to hold after a renewal of the record `named` to x
+-- the value of record k after a renewal that gives the record `named` the value x: the others keep theirs
 abbrev pub renewed-value : Code → Cells → ℕ → ℕ → ℕ → ℕ
 renewed-value c before named x k = cond (eqb k named) x (value c before k)
 
--- The page of record k was erased, and then each of its records written from empty by a plan, record k for x
--- and any other for the value that it held.
+-- A renewal of record k to x: its page was erased, and each record of the page was written into unset cells by a plan
+-- for its value. `marked` counts the cells that were set.
 pub record Renewed (c : Code) (k x : ℕ) (before after : Cells) (marked : ℕ) : Type 0 where
   pub shape : Shaped before after
-  -- plans r is that of the page's record r
+  -- the plan of the record at place r of the page
   pub plans : ℕ → Cellset
   pub planned : (r : ℕ) → r < per-page c before → Plan c every (renewed-value c before k x (page-of c before k * per-page c before + r)) (plans r)
   pub written : (r i : ℕ) → r < per-page c before → i < c .cells → after .set (page-of c before k) (r * c .cells + i) ≡ plans r i
@@ -72,14 +73,14 @@ pub record Renewed (c : Code) (k x : ℕ) (before after : Cells) (marked : ℕ) 
   pub unworn : (p : ℕ) → p < before .pages → (p ≡ page-of c before k → ⊥) → after .wear p ≡ before .wear p
   pub counted : marked ≡ sizes c plans (per-page c before)
 
--- What a call that no row refuses answers, and does to the cells.
+-- The answer r of a call that nothing refuses, and the cells before and after it.
 abbrev pub Serves : Code → Call → ℕ → Cells → Cells → Type 0
 Serves c (Get k) r before after = (r ≡ value c before k) × (after ≡ before)
 Serves c (Put k x) r before after =
     (s : Cellset) × Plan c (free c before k) (step (c .group) (value c before k) x) s × Sets c k s before after × (r ≡ size-of c s)
 Serves c (Renew k x) r before after = Renewed c k x before after r
 
--- What a call alters: the cells with their wear, and the ledger.
+-- What calls can alter.
 pub record State : Type 0 where
   pub cells : Cells
   pub ledger : Ledger
@@ -87,7 +88,7 @@ pub record State : Type 0 where
 abbrev pub Answer : Type 0
 Answer = Result ℕ StoreFault
 
--- the fault names record k, and where it holds a device's fault that names the page p
+-- the fault carries the record k of the call, and a device's fault in it the page p
 abbrev pub Places : StoreFault → ℕ → ℕ → Type 0
 Places (NoRecord j) k p = j ≡ k
 Places (NoValue j) k p = j ≡ k
@@ -96,7 +97,8 @@ Places (Fits j) k p = j ≡ k
 Places (Unreached j) k p = j ≡ k
 Places (Device j f) k p = (j ≡ k) × Names f p None
 
--- A call is refused by the first row that holds, and then alters nothing; where none holds it is served.
+-- The rules: the first row that holds refuses the call, which then alters nothing. Where no row holds the call is
+-- served, and the ledger notes it.
 abbrev pub Obeys : Code → Call → Answer → State → State → Type 0
 Obeys c call (Ok r) before after =
     Served (rows c (before .cells) call) × Serves c call r (before .cells) (after .cells)

@@ -1,4 +1,4 @@
--- Records in the pages of a cell array: where they lie and what they hold. Assumes nothing.
+-- The records of a store: how many there are, which cells each has, and the value of each. Assumes nothing.
 use mathlib.Core.Path.{_≡_}
 use mathlib.Core.Bool.{Bool, cond, not, _&&_}
 use mathlib.Core.Logic.{_⊎_}
@@ -11,46 +11,46 @@ use Rattle.cells.specs.Rows.{Row, row}
 use Rattle.cells.specs.Sets.{Cellset}
 use Rattle.coset.specs.Code.{Code, sum-of}
 
--- The checks of a making, in their order.
+-- What refuses a making of the group g, the array m and n cells to a record, in the order of the checks.
 abbrev pub making-rows : Group → Cells → ℕ → List Row
 making-rows g m n =
     row 30 (g .order ≡ unusable) ∷
     (row 31 ((n ≡ 0) ⊎ (63 < n)) ∷
     (row 32 (m .width < n) ∷ []))
 
--- whether they all pass
+-- whether nothing does
 abbrev pub makes : Code → Cells → Bool
 makes c m = not (eqb (c .group .order) unusable) && (ltb 0 (c .cells) && (ltb (c .cells) 64 && leb (c .cells) (m .width)))
 
--- the records to a page
+-- how many records share a page: as many as fit, and at most 64
 abbrev pub per-page : Code → Cells → ℕ
 per-page c m = min 64 (m .width / c .cells)
 
--- The records of a store. A store made against its check has none.
+-- How many records there are. Where the making is refused there are none.
 abbrev pub records : Code → Cells → ℕ
 records c m = cond (makes c m) (m .pages * per-page c m) 0
 
--- the page of record k, and its first cell there
+-- Records are numbered page by page. The page of record k, and the first of its cells there:
 abbrev pub page-of : Code → Cells → ℕ → ℕ
 page-of c m k = k / per-page c m
 
 abbrev pub first-of : Code → Cells → ℕ → ℕ
 first-of c m k = (k % per-page c m) * c .cells
 
--- the cell j of the page p belongs to record k
+-- cell j of page p is one of the cells of record k
 pub record Within (c : Code) (m : Cells) (k p j : ℕ) : Type 0 where
   pub page : p ≡ page-of c m k
   pub from : first-of c m k ≤ j
   pub below : j < first-of c m k + c .cells
 
--- the set cells of record k
+-- which cells of record k are set, counted from its first
 abbrev pub held : Code → Cells → ℕ → Cellset
 held c m k i = m .set (page-of c m k) (first-of c m k + i)
 
--- the cells of record k that a plan may use
+-- which of them a plan may set
 abbrev pub free : Code → Cells → ℕ → Cellset
 free c m k i = not (held c m k i)
 
--- what record k holds
+-- the value of record k: the sum of the labels of its set cells
 abbrev pub value : Code → Cells → ℕ → ℕ
 value c m k = sum-of c (held c m k)
