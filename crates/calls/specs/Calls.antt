@@ -14,7 +14,7 @@ use Rattle.calls.specs.declared.fault.StoreFault.{StoreFault}
 use Rattle.group.specs.Group.{step}
 use Rattle.cells.specs.Cells.{Cells, Shaped, Cell}
 use Rattle.cells.specs.Rows.{Row, row, Refused, Served}
-use Rattle.cells.specs.Sets.{Cellset}
+use Rattle.cells.specs.Sets.{Cellset, size-below}
 use Rattle.coset.specs.Code.{Code, every, size-of, Reachable, Unreachable, Plan}
 use Rattle.calls.specs.Records.{records, per-page, page-of, Within, held, free, value}
 use Rattle.calls.specs.declared.fault.StoreFault.the-variants.{NoRecord, NoValue, Full, Fits, Unreached, Device}
@@ -50,10 +50,10 @@ pub record Sets (c : Code) (k : ℕ) (s : Cellset) (before after : Cells) : Type
   pub others : (p j : ℕ) → Cell before p j → (Within c before k p j → ⊥) → after .set p j ≡ before .set p j
   pub wear : (p : ℕ) → p < before .pages → after .wear p ≡ before .wear p
 
--- the sizes of the first b sets, added up
-unfoldable pub sizes : Code → (ℕ → Cellset) → ℕ → ℕ
-sizes c plans zero = 0
-sizes c plans (suc b) = size-of c (plans b) + sizes c plans b
+-- the sizes of the first b sets of n cells, added up
+unfoldable pub sizes : ℕ → (ℕ → Cellset) → ℕ → ℕ
+sizes n sets zero = 0
+sizes n sets (suc b) = size-below (sets b) n + sizes n sets b
 
 -- the value of record k after a renewal that gives the record `named` the value x: the others keep theirs
 abbrev pub renewed-value : Code → Cells → ℕ → ℕ → ℕ → ℕ
@@ -71,7 +71,7 @@ pub record Renewed (c : Code) (k x : ℕ) (before after : Cells) (marked : ℕ) 
   pub others : (p j : ℕ) → Cell before p j → (p ≡ page-of c before k → ⊥) → after .set p j ≡ before .set p j
   pub worn : after .wear (page-of c before k) ≡ before .wear (page-of c before k) + 1
   pub unworn : (p : ℕ) → p < before .pages → (p ≡ page-of c before k → ⊥) → after .wear p ≡ before .wear p
-  pub counted : marked ≡ sizes c plans (per-page c before)
+  pub counted : marked ≡ sizes (c .cells) plans (per-page c before)
 
 -- The answer r of a call that nothing refuses, and the cells before and after it.
 abbrev pub Serves : Code → Call → ℕ → Cells → Cells → Type 0
