@@ -1,0 +1,4 @@
+pub mod Setting
+pub mod Serving
+pub mod Paging
+pub mod Renewing

@@ -1,0 +1,7 @@
+// The store: records in the pages of a cell array.
+// Its calls are private pieces as yet; only the check of a making is offered.
+pub mod making;
+mod page;
+mod place;
+mod record;
+mod store;
