@@ -5,6 +5,7 @@ use mathlib.Core.List.{List, [], _∷_, _++_, map}
 use Prim.Native.Nat.{ℕ, _+_, _≤_, _<_}
 use native.Mathlib.Omega.{arith}
 use Rattle.std.specs.declared.result.Result.the-variants.{Ok, Err}
+use Rattle.std.proofs.shelf.Lists.{append-nil}
 use Rattle.group.specs.Group.{Group, Lawful}
 use Rattle.cells.specs.Cells.{Cells, Shaped}
 use Rattle.calls.specs.declared.call.Call.{Call}
@@ -104,6 +105,15 @@ module _ (g : Group) (laws : Lawful g) (n : ℕ) where
       gets-one e (records (code g n) (first .cells)) (λ k. last-accepted k earlier (value (code g n) (first .cells) k)) (to .2 .0)
       (ap (λ z. records (code g n) (z .cells)) here ∙ to .3) (λ k h. ap (λ z. value (code g n) (z .cells) k) here ∙ to .4 k h)
 
+  values :
+      (history : List Event) (first last : State) → Linked first history last → Every (Rules (code g n)) history →
+      (k : ℕ) → k < records (code g n) (first .cells) → value (code g n) (last .cells) k ≡ last-accepted k history (value (code g n) (first .cells) k)
+  values history first last linked all k h =
+      let to =
+      track history [] first last (subst (λ es. Linked first es last) (sym (append-nil history)) linked)
+      (subst (Every (Rules (code g n))) (sym (append-nil history)) all) in
+      ap (λ z. value (code g n) (z .cells) k) (to .1) ∙ to .4 k h
+
 pub rules-suffice : Rules-suffice
 rules-suffice g laws n first history last within linked all =
     let c = code g n in
@@ -119,6 +129,7 @@ rules-suffice g laws n first history last within linked all =
       erases = erases c history first last linked all;
       lasts = each _ _ (λ e o. lasts c (e .call) (e .answer) (e .before) (e .after) o) history all;
       gets = gets g laws n history first last linked all;
+      values = values g laws n history first last linked all;
       ledger-changes = counted c (λ e. cond (changed c e) 1 0) (λ l. l .changes) (λ l w. w .changes) (λ e noted. noted .changes) history first last linked all within;
       ledger-renewals = counted c (λ e. cond (renewed e) 1 0) (λ l. l .renewals) (λ l w. w .renewals) (λ e noted. noted .renewals) history first last linked all within;
       ledger-marked = counted c (λ e. marks (e .call) (e .answer)) (λ l. l .marked) (λ l w. w .marked) (λ e noted. noted .marked) history first last linked all within;

@@ -57,36 +57,39 @@ worked-examples = (
       (
         refl,
         (
-          one-plan (integers 7) 6 (4 ∷ (5 ∷ (6 ∷ []))) 0 (1 ∷ (2 ∷ (3 ∷ []))) refl refl,
+          refl,
           (
-            refl,
+            one-plan (integers 7) 6 (4 ∷ (5 ∷ (6 ∷ []))) 0 (1 ∷ (2 ∷ (3 ∷ []))) refl refl,
             (
-              no-plan (integers 7) 6 (1 ∷ (2 ∷ (3 ∷ (4 ∷ (5 ∷ (6 ∷ [])))))) 1 refl,
+              refl,
               (
-                one-plan (integers 7) 6 (1 ∷ (2 ∷ (3 ∷ (4 ∷ (5 ∷ (6 ∷ [])))))) 0 [] refl refl,
+                no-plan (integers 7) 6 (1 ∷ (2 ∷ (3 ∷ (4 ∷ (5 ∷ (6 ∷ [])))))) 1 refl,
                 (
-                  one-plan (vectors 2) 3 (1 ∷ []) 0 (2 ∷ (3 ∷ [])) refl refl,
+                  one-plan (integers 7) 6 (1 ∷ (2 ∷ (3 ∷ (4 ∷ (5 ∷ (6 ∷ [])))))) 0 [] refl refl,
                   (
-                    refl,
+                    one-plan (vectors 2) 3 (1 ∷ []) 0 (2 ∷ (3 ∷ [])) refl refl,
                     (
-                      no-plan (integers 4) 1 [] 2 refl,
+                      refl,
                       (
-                        none-reaches (code (integers 4) 1) every 2 refl,
+                        no-plan (integers 4) 1 [] 2 refl,
                         (
-                          one-plan (integers 4) 1 [] 1 (1 ∷ []) refl refl,
+                          none-reaches (code (integers 4) 1) every 2 refl,
                           (
-                            (refl, refl),
+                            one-plan (integers 4) 1 [] 1 (1 ∷ []) refl refl,
                             (
                               (refl, refl),
                               (
                                 (refl, refl),
                                 (
-                                  refl,
+                                  (refl, refl),
                                   (
-                                    fits-64,
+                                    refl,
                                     (
-                                      inl (refl, refl),
-                                      (inr (λ e. omega arith, inl (inr (omega arith), refl)), tt),
+                                      fits-64,
+                                      (
+                                        inl (refl, refl),
+                                        (inr (λ e. omega arith, inl (inr (omega arith), refl)), tt),
+                                      ),
                                     ),
                                   ),
                                 ),

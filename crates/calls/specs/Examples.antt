@@ -34,6 +34,8 @@ Listed c s (ls ∷ more) = ((i : ℕ) → i < c .cells → s i ≡ labelled ls i
 pub data Example : Type 0 where
   -- … holds this value
   holds : Group → ℕ → List ℕ → ℕ → Example
+  -- … is this step away from this target
+  steps : Group → ℕ → List ℕ → ℕ → ℕ → Example
   -- … has exactly these plans for this target
   plans : Group → ℕ → List ℕ → ℕ → List (List ℕ) → Example
   -- … is full for this target
@@ -60,6 +62,7 @@ Planned g n ls x (p ∷ ps) = Plan (code g n) (free (code g n) (one-record n ls)
 
 abbrev pub Shows : Example → Type 0
 Shows (holds g n ls x) = value (code g n) (one-record n ls) 0 ≡ x
+Shows (steps g n ls x d) = step-to g n ls x ≡ d
 Shows (plans g n ls x ps) =
     Planned g n ls x ps
     × ((s : Cellset) → Plan (code g n) (free (code g n) (one-record n ls) 0) (step-to g n ls x) s → Listed (code g n) s ps)
@@ -81,6 +84,7 @@ worked =
     (plans (integers 7) 6 [] 3 ((3 ∷ []) ∷ []) ∷
     (plans (integers 7) 6 (3 ∷ []) 6 ((1 ∷ (2 ∷ [])) ∷ ((4 ∷ (6 ∷ [])) ∷ [])) ∷
     (holds (integers 7) 6 (4 ∷ (5 ∷ (6 ∷ []))) 1 ∷
+    (steps (integers 7) 6 (4 ∷ (5 ∷ (6 ∷ []))) 0 6 ∷
     (plans (integers 7) 6 (4 ∷ (5 ∷ (6 ∷ []))) 0 ((1 ∷ (2 ∷ (3 ∷ []))) ∷ []) ∷
     (holds (integers 7) 6 (1 ∷ (2 ∷ (3 ∷ (4 ∷ (5 ∷ (6 ∷ [])))))) 0 ∷
     (full (integers 7) 6 (1 ∷ (2 ∷ (3 ∷ (4 ∷ (5 ∷ (6 ∷ [])))))) 1 ∷
@@ -96,7 +100,7 @@ worked =
     (rates 5 8 63 ∷
     (accepted (integers 64) 64 63 ∷
     (refused (integers 65) 64 63 30 ∷
-    (refused (integers 64) 64 64 31 ∷ [])))))))))))))))))))
+    (refused (integers 64) 64 64 31 ∷ []))))))))))))))))))))
 
 -- The examples hold.
 abbrev pub Worked : Type 0

@@ -77,6 +77,10 @@ pub record Promise (g : Group) (n : ℕ) (first : State) (calls : List Call) (an
   pub gets :
       (earlier : List Event) (e : Event) (later : List Event) → history ≡ earlier ++ (e ∷ later) →
       Gets (e .call) (e .answer) (λ k. last-accepted k earlier (value (code g n) (first .cells) k))
+  -- and that is what the record holds in the end
+  pub values :
+      (k : ℕ) → k < records (code g n) (first .cells) →
+      value (code g n) (last .cells) k ≡ last-accepted k history (value (code g n) (first .cells) k)
   -- the ledger has grown by what the history counts, up to the ceiling
   pub ledger-changes : last .ledger .changes ≡ raised (count (changed (code g n)) history) (first .ledger .changes)
   pub ledger-renewals : last .ledger .renewals ≡ raised (count renewed history) (first .ledger .renewals)
