@@ -21,13 +21,11 @@ use Rattle.calls.specs.Faults.{number}
 use Rattle.calls.specs.Ledger.{ceiling, raised, noted}
 use Rattle.calls.specs.Calls.{State, Answer, Sets, Renewed, renewed-value, rows, names, Serves, Obeys}
 use Rattle.calls.specs.History.{Event, accepted, is-renewal, is-change, renewed, changed, on-page, marks, accepts}
+use Rattle.calls.specs.Sample.{event}
 use Rattle.calls.specs.Promise.{Refused-full, Full-exactly, Fewest, Lasts, Gets, Within-ceiling}
 use Rattle.coset.proofs.Sums.{Agree, sum-agree, label-in}
 use Rattle.calls.proofs.Geometry.{at-place, There, there, place-within, number-of, page-same, place-same, per-page-same, records-same}
 use Rattle.calls.proofs.Effects.{put-others, put-value}
-
-abbrev event : Call → Answer → State → State → Event
-event call answer before after = record { call = call; answer = answer; before = before; after = after }
 
 pub no-count : (a b : Bool) → _≡_ {A = ℕ} (cond ((a && false) && b) 1 0) 0
 no-count true b = refl

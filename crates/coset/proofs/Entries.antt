@@ -12,7 +12,8 @@ use Rattle.coset.specs.Code.{code, sum-of, size-of, Unreachable}
 use Rattle.coset.specs.Plans.{Filled, fewest-at, turn}
 use Rattle.coset.specs.declared.planner.Table.{Table}
 use Rattle.coset.proofs.Groups.{zero-in, step-only}
-use Rattle.coset.proofs.Sums.{Agree, Apart, only, either, label-in, sum-in, sum-agree, sum-either, sum-only, size-le, size-agree, size-either, size-only}
+use Rattle.cells.proofs.Sizes.{size-le}
+use Rattle.coset.proofs.Sums.{Agree, Apart, only, either, label-in, sum-in, sum-agree, sum-either, sum-only, size-agree, size-either, size-only}
 use Rattle.coset.proofs.Beyond.{sum-empty}
 
 -- A cell may be left out or, where it is free, taken.

@@ -45,15 +45,6 @@ unfolding size-below
 size-none zero = refl
 size-none (suc n) = size-none n
 
-pub size-le : (s : Cellset) (n : ℕ) → size-below s n ≤ n
-unfolding size-below
-size-le s zero = omega arith
-size-le s (suc n) = go (s n) (size-le s n)
-  where
-    go : (b : Bool) → size-below s n ≤ n → cond b (1 + size-below s n) (size-below s n) ≤ suc n
-    go true h = omega arith
-    go false h = omega arith
-
 -- a longer record has at least as many
 pub size-more : (s : Cellset) (n k : ℕ) → size-below s n ≤ size-below s (n + k)
 unfolding size-below
