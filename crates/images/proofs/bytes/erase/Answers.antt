@@ -9,10 +9,10 @@ use Rattle.images.proofs.Intact.{erase_intact}
 use Rattle.images.proofs.Offsets.{page_within, shown}
 use Rattle.images.proofs.bytes.erase.Goals as goal
 
-pub slice-bounds-fill-end : goal.slice-bounds-fill-end
-slice-bounds-fill-end c =
+pub slice_bounds-fill-end : goal.slice_bounds-fill-end
+slice_bounds-fill-end c =
     let l = c.args.layout in
-    let worn = c.in-ok-worn.ensures in
+    let worn = c.in_ok-worn.ensures in
     let there = shown (fits Flash l c.args.image.now) l.pages c.args.page (omega (arith, worn.0.0)) in
     let inside = page_within l.width c.args.page l.pages there.1 in
     search rules
@@ -20,18 +20,18 @@ slice-bounds-fill-end c =
 pub returns : goal.returns
 returns c =
     let l = c.args.layout in
-    let worn = c.in-ok-worn.ensures in
+    let worn = c.in_ok-worn.ensures in
     let there = shown (fits Flash l c.args.image.now) l.pages c.args.page (omega (arith, worn.0.0)) in
     let inside = page_within l.width c.args.page l.pages there.1 in
-    let at = c.page-at-at.result in
+    let at = c.page_at-at.result in
     let n = at + c.page_bytes.result - at in
     let k = 5 + 4 * c.args.page - (1 + 4 * c.args.page) in
-    let ys = put_mid (1 + 4 * c.args.page) k (put_mid at n c.args.image.now c.fill.new.page) c.copy-from-slice.new.self in
+    let ys = put_mid (1 + 4 * c.args.page) k (put_mid at n c.args.image.now c.fill.new.page) c.copy_from_slice.new.self in
     let bytes : PageErased l.pages l.width c.args.page c.args.image.now ys =
-    page_written l.pages l.width c.args.page at n k (c.in-ok-worn.worn + 1) c.args.image.now
-    c.fill.new.page c.copy-from-slice.new.self there.1 worn.2 c.page-at-at.ensures (omega arith)
+    page_written l.pages l.width c.args.page at n k (c.in_ok-worn.worn + 1) c.args.image.now
+    c.fill.new.page c.copy_from_slice.new.self there.1 worn.2 c.page_at-at.ensures (omega arith)
     (c.fill.ensures ∙ ap (λ m. replicate m 255) (length-between c.args.image.now _ _ (omega arith))) (omega arith) (omega arith)
-    (c.copy-from-slice.ensures.after ∙ c.to-be-bytes.ensures) (omega arith) in
+    (c.copy_from_slice.ensures.after ∙ c.to_be_bytes.ensures) (omega arith) in
     record {
       erases =
           ((worn.0.0, (λ most. omega arith, tt)), part_erased l c.args.page c.args.image.now ys there.0 there.1 (omega arith) bytes);

@@ -3,8 +3,8 @@ use Rattle.images.proofs.bytes.mark.Goals as goal
 
 pub returns : goal.returns
 returns c =
-    let found = c.in-ok-at.ensures in
+    let found = c.in_ok-at.ensures in
     let done =
-    mark_done c.args.format c.args.layout c.args.image.now c.args.page c.args.cell c.in-ok-at.at
-    c.with-set.result found c.with-set.ensures in
+    mark_done c.args.format c.args.layout c.args.image.now c.args.page c.args.cell c.in_ok-at.at
+    c.with_set.result found c.with_set.ensures in
     record { marks = (found.0, done.0); bytes = done.1; intact = done.2 }

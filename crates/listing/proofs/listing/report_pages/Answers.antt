@@ -9,6 +9,6 @@ pub loop-page-preserved : goal.loop-page-preserved
 loop-page-preserved g c =
     let f = page_report (g.A.CellArray.cells c.args.array.now) in
     let n = c.loop-page.page in
-    pushed (c.report.result ∷ []) c.loop-page.invariant c.in-ok-push.was c.push.ensures.items
+    pushed (c.report.result ∷ []) c.loop-page.invariant c.in_ok-push.was c.push.ensures.items
     ∙ ap (λ r. map f (range_with_len 0 n) ++ (r ∷ [])) c.report.ensures
     ∙ sym (map-range_with_len_more f 0 n n (omega arith))

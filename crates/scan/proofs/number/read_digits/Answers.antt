@@ -4,11 +4,11 @@ use Rattle.scan.specs.Numbers.{value_after}
 use Rattle.scan.proofs.Spelling.{digit_more, digits_few}
 use Rattle.scan.proofs.number.read_digits.Goals as goal
 
-pub overflow-mul-number : goal.overflow-mul-number
-overflow-mul-number c = omega (arith, digits_few c.loop-digit.number c.loop-digit.digit-index c.loop-digit.invariant.2 (omega arith))
+pub overflow_mul-number : goal.overflow_mul-number
+overflow_mul-number c = omega (arith, digits_few c.loop-digit.number c.loop-digit.digit-index c.loop-digit.invariant.2 (omega arith))
 
-pub overflow-add-number : goal.overflow-add-number
-overflow-add-number c = omega (arith, digits_few c.loop-digit.number c.loop-digit.digit-index c.loop-digit.invariant.2 (omega arith))
+pub overflow_add-number : goal.overflow_add-number
+overflow_add-number c = omega (arith, digits_few c.loop-digit.number c.loop-digit.digit-index c.loop-digit.invariant.2 (omega arith))
 
 pub loop-digit-preserved : goal.loop-digit-preserved
 loop-digit-preserved c =

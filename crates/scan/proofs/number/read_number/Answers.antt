@@ -4,11 +4,11 @@ use Rattle.scan.proofs.Spelling.{reads_digits, spelled_length, spelled_first}
 use Rattle.scan.proofs.number.read_number.Goals as goal
 use Rattle.scan.proofs.number.read_number.Goals.{else-word-gt1-via-then-word-gt1+else-word-eq48, else-word-gt1-via-else-word-gt1}
 
-pub returns-then-is-empty : goal.returns-then-is-empty
-returns-then-is-empty c n spells =
+pub returns-then-is_empty : goal.returns-then-is_empty
+returns-then-is_empty c n spells =
     let long = spelled_length c.args.word.now n spells in
-    elim c.then-is-empty.either [
-      | inl empty ↦ omega (arith, eqb-true (length c.args.word.now) 0 (sym c.is-empty.ensures ∙ empty))
+    elim c.then-is_empty.either [
+      | inl empty ↦ omega (arith, eqb-true (length c.args.word.now) 0 (sym c.is_empty.ensures ∙ empty))
       | inr more ↦ omega arith
     ]
 
@@ -17,8 +17,8 @@ returns-then-word-eq48 c n spells = omega (arith, spelled_first c.args.word.now 
 
 pub returns : goal.returns
 returns c =
-    let some = eqb-false (length c.args.word.now) 0 (sym c.if-is-empty.ensures) in
-    reads_digits c.args.word.now c.read-digits.result c.read-digits.ensures (omega arith) c.if-word-gt-MAX-DIGITS.false
+    let some = eqb-false (length c.args.word.now) 0 (sym c.if-is_empty.ensures) in
+    reads_digits c.args.word.now c.read_digits.result c.read_digits.ensures (omega arith) c.if-word-gt-MAX_DIGITS.false
     (λ zero.
     elim c.else-word-gt1.branch [
       | else-word-gt1-via-then-word-gt1+else-word-eq48 w ↦ absurd (w.if-word-eq48.false zero)

@@ -32,8 +32,8 @@ returns-in-Renew g c =
           (spoken c.renewed.result) c.in-Renew.is c.renew-answer.ensures.obeys c.renewed.ensures;
     }
 
-pub returns-else-is-full : goal.returns-else-is-full
-returns-else-is-full g c =
+pub returns-else-is_full : goal.returns-else-is_full
+returns-else-is_full g c =
     let co = code (g.G.Group.meaning c.args.store.now.group) c.args.store.now.n in
     let before = state_of (g.A.CellArray.cells c.args.store.now.array) c.args.store.now.ledger in
     let after = state_of (g.A.CellArray.cells c.put-answer-in-Save.new.self.array) c.put-answer-in-Save.new.self.ledger in
@@ -42,11 +42,11 @@ returns-else-is-full g c =
       n = c.put-answer-in-Save.ensures.n;
       course =
           tells_saved co c.args.line c.args.order c.in-Save.«record» c.in-Save.value c.of-place.result c.of-place.ensures before after c.put-answer-in-Save.result
-          (spoken c.wrote-else-is-full.result) c.in-Save.is c.put-answer-in-Save.ensures.obeys (c.is-full.ensures.other c.if-is-full.false) c.wrote-else-is-full.ensures;
+          (spoken c.wrote-else-is_full.result) c.in-Save.is c.put-answer-in-Save.ensures.obeys (c.is_full.ensures.other c.if-is_full.false) c.wrote-else-is_full.ensures;
     }
 
-pub returns-then-is-full : goal.returns-then-is-full
-returns-then-is-full g c =
+pub returns-then-is_full : goal.returns-then-is_full
+returns-then-is_full g c =
     let co = code (g.G.Group.meaning c.args.store.now.group) c.args.store.now.n in
     let before = state_of (g.A.CellArray.cells c.args.store.now.array) c.args.store.now.ledger in
     let mid = state_of (g.A.CellArray.cells c.put-answer-in-Save.new.self.array) c.put-answer-in-Save.new.self.ledger in
@@ -58,9 +58,9 @@ returns-then-is-full g c =
       n = again.n ∙ put.n;
       course =
           tells_renewed co c.args.line c.args.order c.in-Save.«record» c.in-Save.value c.of-place.result c.of-place.ensures before after c.renew-again.result
-          (spoken c.renewed-then-is-full.result) c.put-answer-in-Save.result mid c.in-Save.is put.obeys (c.is-full.ensures.full c.if-is-full.true)
+          (spoken c.renewed-then-is_full.result) c.put-answer-in-Save.result mid c.in-Save.is put.obeys (c.is_full.ensures.full c.if-is_full.true)
           (subst₂ (λ gr n. Obeys (code (g.G.Group.meaning gr) n) (Renew c.in-Save.«record».value c.in-Save.value.value) c.renew-again.result mid after) put.group put.n again.obeys)
-          c.renewed-then-is-full.ensures;
+          c.renewed-then-is_full.ensures;
     }
 
 pub returns-in-Get : goal.returns-in-Get

@@ -10,8 +10,8 @@ loop-reply-init c = c.new-text.ensures.bytes ∙ printed_none c.args.replies.now
 
 pub loop-reply-preserved : goal.loop-reply-preserved
 loop-reply-preserved c =
-    c.in-ok-push-str.ensures.bytes
-    ∙ ap₂ (λ xs ys. xs ++ ys) c.loop-reply.invariant (c.deref.ensures ∙ c.in-ok-line.ensures.ok)
+    c.in_ok-push_str.ensures.bytes
+    ∙ ap₂ (λ xs ys. xs ++ ys) c.loop-reply.invariant (c.deref.ensures ∙ c.in_ok-line.ensures.ok)
     ∙ sym (printed_more c.args.replies.now c.loop-reply.reply-index (Made 0) c.loop-reply-test.true)
 
 pub returns : goal.returns

@@ -14,15 +14,15 @@ loop-line-preserved g c =
     let co = code (g.G.Group.meaning c.args.store.now.group) c.args.store.now.n in
     let first = state_of (g.A.CellArray.cells c.args.store.now.array) c.args.store.now.ledger in
     let now = state_of (g.A.CellArray.cells c.loop-line.store.array) c.loop-line.store.ledger in
-    let next = state_of (g.A.CellArray.cells c.answer-line-reply.new.store.array) c.answer-line-reply.new.store.ledger in
+    let next = state_of (g.A.CellArray.cells c.answer_line-reply.new.store.array) c.answer_line-reply.new.store.ledger in
     let l = line_of c.in-Some.line in
-    let answered = c.answer-line-reply.ensures in
+    let answered = c.answer_line-reply.ensures in
     let taken = c.in-Some.ensures in (
       taken.countable,
       answered.group ∙ inv.1,
       answered.n ∙ inv.2,
-      progress_more co first now next (lines_left c.args.lines.now) (lines_left c.loop-line.lines) l (lines_left c.next-line.new.self)
-          (Made (records co (g.A.CellArray.cells c.args.store.now.array))) c.answer-line-reply.result (vec_items c.loop-line.replies) (vec_items c.push-in-Some.new.self)
-          inv.3 taken.next c.in-ok-push-2.ensures.items
-          (subst₂ (λ gr n. Course (code (g.G.Group.meaning gr) n) (λ h. LineTells l.1 l.0 now h c.answer-line-reply.result) now next) inv.1 inv.2 answered.course),
+      progress_more co first now next (lines_left c.args.lines.now) (lines_left c.loop-line.lines) l (lines_left c.next_line.new.self)
+          (Made (records co (g.A.CellArray.cells c.args.store.now.array))) c.answer_line-reply.result (vec_items c.loop-line.replies) (vec_items c.push-in-Some.new.self)
+          inv.3 taken.next c.in_ok-push-2.ensures.items
+          (subst₂ (λ gr n. Course (code (g.G.Group.meaning gr) n) (λ h. LineTells l.1 l.0 now h c.answer_line-reply.result) now next) inv.1 inv.2 answered.course),
     )

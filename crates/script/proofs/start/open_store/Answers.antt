@@ -6,35 +6,35 @@ use Rattle.script.specs.Lines.{lines_left}
 use Rattle.script.proofs.Starting.{fresh_part, image_stopped, image_made, store_stopped, store_opened}
 use Rattle.script.proofs.start.open_store.Goals as goal
 
-pub returns-in-err-image : goal.returns-in-err-image
-returns-in-err-image c =
-    let p = err_from_is_err_and c.from-residual.result c.from-residual.ensures.1 in
+pub returns-in_err-image : goal.returns-in_err-image
+returns-in_err-image c =
+    let p = err_from_is_err_and c.from_residual.result c.from_residual.ensures.1 in
     rw (p.1, p.2)
-    (image_stopped c.args.place vec_items c.fresh-flash.result c.in-err-image.field-0.0
-    (sym c.located-at.ensures ∙ c.in-err-image.was) c.fresh-flash.ensures)
+    (image_stopped c.args.place vec_items c.fresh_flash.result c.in_err-image.field-0.0
+    (sym c.located_at.ensures ∙ c.in_err-image.was) c.fresh_flash.ensures)
 
-pub returns-in-err-located-at : goal.returns-in-err-located-at
-returns-in-err-located-at c =
+pub returns-in_err-located_at : goal.returns-in_err-located_at
+returns-in_err-located_at c =
     let place = c.args.place in
     let image =
-    image_made place vec_items c.fresh-flash.result c.in-ok-image.image (sym c.located-at.ensures ∙ c.in-ok-image.was) c.fresh-flash.ensures in
+    image_made place vec_items c.fresh_flash.result c.in_ok-image.image (sym c.located_at.ensures ∙ c.in_ok-image.was) c.fresh_flash.ensures in
     let fresh =
-    fresh_part place.heading.pages.value place.heading.width.value (vec_items c.in-ok-image.image) c.over-part.result.image.now c.deref-mut.result.now
-    c.over-part.result.layout image.1 c.deref-mut.ensures.value c.over-part.ensures.meaning c.over-part.ensures.bytes in
-    let p = err_from_is_err_and c.from-residual-in-err-located-at.result c.from-residual-in-err-located-at.ensures.1 in
+    fresh_part place.heading.pages.value place.heading.width.value (vec_items c.in_ok-image.image) c.over-part.result.image.now c.deref_mut.result.now
+    c.over-part.result.layout image.1 c.deref_mut.ensures.value c.over-part.ensures.meaning c.over-part.ensures.bytes in
+    let p = err_from_is_err_and c.from_residual-in_err-located_at.result c.from_residual-in_err-located_at.ensures.1 in
     rw (p.1, p.2)
-    (store_stopped place (part_cells Flash c.over-part.result.layout c.over-part.result.image.now) fresh image.0 c.check-making.result
-    c.in-err-located-at.field-0.0 (sym c.located-at-2.ensures ∙ c.in-err-located-at.was) c.check-making.ensures)
+    (store_stopped place (part_cells Flash c.over-part.result.layout c.over-part.result.image.now) fresh image.0 c.check_making.result
+    c.in_err-located_at.field-0.0 (sym c.located_at-2.ensures ∙ c.in_err-located_at.was) c.check_making.ensures)
 
 pub returns : goal.returns
 returns c =
     let place = c.args.place in
     let lines = lines_left c.args.lines.now in
     let image =
-    image_made place vec_items c.fresh-flash.result c.in-ok-image.image (sym c.located-at.ensures ∙ c.in-ok-image.was) c.fresh-flash.ensures in
+    image_made place vec_items c.fresh_flash.result c.in_ok-image.image (sym c.located_at.ensures ∙ c.in_ok-image.was) c.fresh_flash.ensures in
     let fresh =
-    fresh_part place.heading.pages.value place.heading.width.value (vec_items c.in-ok-image.image) c.over-part.result.image.now c.deref-mut.result.now
-    c.over-part.result.layout image.1 c.deref-mut.ensures.value c.over-part.ensures.meaning c.over-part.ensures.bytes in
-    store_opened place (part_cells Flash c.over-part.result.layout c.over-part.result.image.now) fresh image.0 c.check-making.result
-    c.in-ok-located-at.field-0 lines (vec_items c.in-ok-answer-rest.field-0) (sym c.located-at-2.ensures ∙ c.in-ok-located-at.was) c.check-making.ensures
-    c.in-ok-answer-rest.ensures
+    fresh_part place.heading.pages.value place.heading.width.value (vec_items c.in_ok-image.image) c.over-part.result.image.now c.deref_mut.result.now
+    c.over-part.result.layout image.1 c.deref_mut.ensures.value c.over-part.ensures.meaning c.over-part.ensures.bytes in
+    store_opened place (part_cells Flash c.over-part.result.layout c.over-part.result.image.now) fresh image.0 c.check_making.result
+    c.in_ok-located_at.field-0 lines (vec_items c.in_ok-answer_rest.field-0) (sym c.located_at-2.ensures ∙ c.in_ok-located_at.was) c.check_making.ensures
+    c.in_ok-answer_rest.ensures

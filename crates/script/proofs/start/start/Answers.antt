@@ -6,21 +6,21 @@ use Rattle.script.proofs.Reading.{read_refused, read_passed}
 use Rattle.script.proofs.Starting.{head_misread, head_read}
 use Rattle.script.proofs.start.start.Goals as goal
 
-pub returns-in-err-heading : goal.returns-in-err-heading
-returns-in-err-heading c =
+pub returns-in_err-heading : goal.returns-in_err-heading
+returns-in_err-heading c =
     let l = c.in-Some.head.bytes.now in
-    let e = c.in-err-heading.field-0.0 in
-    let fault = read_refused (head_spots l) (Headings l) c.in-Some.head.number c.read.result e (sym c.located-at.ensures ∙ c.in-err-heading.was) c.read.ensures in
-    let p = err_from_is_err_and c.from-residual.result c.from-residual.ensures.1 in
+    let e = c.in_err-heading.field-0.0 in
+    let fault = read_refused (head_spots l) (Headings l) c.in-Some.head.number c.read.result e (sym c.located_at.ensures ∙ c.in_err-heading.was) c.read.ensures in
+    let p = err_from_is_err_and c.from_residual.result c.from_residual.ensures.1 in
     rw (p.1, p.2)
-    (head_misread c.args.script.now (line_of c.in-Some.head) (lines_left c.next-line.new.self) c.if-script-gt-MAX-SCRIPT.false
+    (head_misread c.args.script.now (line_of c.in-Some.head) (lines_left c.next_line.new.self) c.if-script-gt-MAX_SCRIPT.false
     (sym c.of-lines.ensures.left ∙ c.in-Some.ensures.next) e fault.0 fault.1)
 
 pub returns : goal.returns
 returns c =
     let l = c.in-Some.head.bytes.now in
     let read =
-    read_passed (head_spots l) (Headings l) c.in-Some.head.number c.read.result c.in-ok-heading.heading (sym c.located-at.ensures ∙ c.in-ok-heading.was)
+    read_passed (head_spots l) (Headings l) c.in-Some.head.number c.read.result c.in_ok-heading.heading (sym c.located_at.ensures ∙ c.in_ok-heading.was)
     c.read.ensures in
-    head_read c.args.script.now (line_of c.in-Some.head) (lines_left c.next-line.new.self) c.if-script-gt-MAX-SCRIPT.false
-    (sym c.of-lines.ensures.left ∙ c.in-Some.ensures.next) vec_items c.in-ok-heading.heading c.open-store.result read c.open-store.ensures
+    head_read c.args.script.now (line_of c.in-Some.head) (lines_left c.next_line.new.self) c.if-script-gt-MAX_SCRIPT.false
+    (sym c.of-lines.ensures.left ∙ c.in-Some.ensures.next) vec_items c.in_ok-heading.heading c.open_store.result read c.open_store.ensures

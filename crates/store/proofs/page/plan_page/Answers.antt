@@ -9,8 +9,8 @@ use Rattle.store.proofs.Serving.{plan_free}
 use Rattle.store.proofs.page.plan_page.Goals as goal
 use Rattle.store.proofs.page.plan_page.Goals.{then-r-named, else-r-named}
 
-pub value-at-target-requires : goal.value-at-target-requires
-value-at-target-requires g c =
+pub value_at-target-requires : goal.value_at-target-requires
+value_at-target-requires g c =
     let width = (g.A.CellArray.cells c.args.array.now).width in
     let fits = page_fits c.args.n width c.min-r-end.result (c.min-r-end.ensures ∙ ap (λ w. min (w / c.args.n) 64) c.width.ensures) in
     record {
@@ -30,7 +30,7 @@ loop-r-preserved g c =
     let is : c.if-r-named.target ≡ target co m c.args.page c.args.named c.args.value c.loop-r.r =
     elim c.if-r-named.branch [
       | then-r-named w ↦ w.target-is ∙ sym (cond-true _ _ _ (eq-eqb c.loop-r.r c.args.named w.if-r-named.true))
-      | else-r-named w ↦ w.target-is ∙ w.value-at-target.ensures ∙ sym (cond-false _ _ _ (ne_eqb c.loop-r.r c.args.named w.if-r-named.false))
+      | else-r-named w ↦ w.target-is ∙ w.value_at-target.ensures ∙ sym (cond-false _ _ _ (ne_eqb c.loop-r.r c.args.named w.if-r-named.false))
     ] in (
       length-set c.loop-r.plans c.loop-r.r c.in-Some.plan ∙ len,
       page_more co m c.args.page c.args.named c.args.value c.loop-r.r c.loop-r.plans c.in-Some.plan (omega arith) c.loop-r.invariant.1

@@ -7,6 +7,6 @@ use Rattle.store.proofs.page.value_at.Goals as goal
 
 pub returns : goal.returns
 returns g c =
-    c.label-sum.ensures
+    c.label_sum.ensures
     ∙ sum_agree (code (g.G.Group.meaning c.args.group.now) c.args.n) (members_of c.read.result)
     (cells_from (g.A.CellArray.cells c.args.array.now) c.args.at) c.args.n c.read.ensures

@@ -16,8 +16,8 @@ write-marked-requires g c =
     let room = rows_within c.args.n c.loop-r.r c.args.per_page (g.A.CellArray.cells c.args.array.now).width c.loop-r-test.true c.requires.fits in
     record { page = rw shape.pages c.requires.page; cells = rw shape.width room; few = c.requires.few }
 
-pub overflow-add-marked : goal.overflow-add-marked
-overflow-add-marked g c =
+pub overflow_add-marked : goal.overflow_add-marked
+overflow_add-marked g c =
     let d : CellSet = record { members = [] } in
     let counted = c.loop-r.invariant.2.counted d in
     let earlier = sizes_few c.args.n (λ r. members_of (get_or c.args.plans.now.plans r d)) c.loop-r.r c.requires.few in

@@ -9,8 +9,8 @@ use Rattle.store.proofs.record.write.Goals.{then-contains, else-contains}
 pub loop-cell-init : goal.loop-cell-init
 loop-cell-init g c = (refl, (λ i. i), sets_none _ _ _ _, sym (size_none _))
 
-pub overflow-add-count : goal.overflow-add-count
-overflow-add-count g c =
+pub overflow_add-count : goal.overflow_add-count
+overflow_add-count g c =
     let few = size_le (members_of c.args.set.now) c.loop-cell.cell in
     let counted = c.loop-cell.invariant.3 in
     let inside = c.requires.few in
@@ -26,7 +26,7 @@ loop-cell-preserved g c =
     elim c.if-contains.branch [
       | then-contains w ↦
           let member = sym c.contains.ensures ∙ w.if-contains.true in
-          let marked = w.set-cell.ensures in (
+          let marked = w.set_cell.ensures in (
             ap g.A.CellArray.held w.array-is ∙ marked.held ∙ inv.0,
             (λ whole. subst g.A.CellArray.intact (sym w.array-is) (marked.intact (inv.1 whole))),
             subst (λ a. SetsCells c.args.n c.args.at (first_of_set s (k + 1)) m (g.A.CellArray.cells a)) (sym w.array-is)

@@ -5,11 +5,11 @@ use Rattle.coset.specs.CellSets.{members_of}
 use Rattle.coset.specs.Plans.{fewest_at, label_of, turn}
 use Rattle.coset.proofs.Rows.{rest_is, turn_taken, turn_left, fills_more}
 use Rattle.coset.proofs.planner.Table.fill_row.Goals as goal
-use Rattle.coset.proofs.planner.Table.fill_row.Goals.{then-is-free, else-is-free}
+use Rattle.coset.proofs.planner.Table.fill_row.Goals.{then-is_free, else-is_free}
 
 pub loop-s-preserved : goal.loop-s-preserved
 loop-s-preserved g c =
-    fills_more group (members_of c.args.free.now) c.args.cell s c.if-is-free.best c.args.self.now c.loop-s.self _
+    fills_more group (members_of c.args.free.now) c.args.cell s c.if-is_free.best c.args.self.now c.loop-s.self _
     (small s (omega arith)) c.loop-s.invariant best c.put.ensures
   where
     group : Group
@@ -42,20 +42,20 @@ loop-s-preserved g c =
     rest_in : In group c.sum.result
     rest_in = omega (arith, sum_in laws s c.opposite-opposite.result, c.sum.ensures)
 
-    out : c.get-left-out.result ≡ next s
-    out = c.get-left-out.ensures ∙ kept s (omega arith)
+    out : c.get-left_out.result ≡ next s
+    out = c.get-left_out.ensures ∙ kept s (omega arith)
 
-    taken : c.saturating-add-taken.result ≡ min (next (step group label s) + 1) 255
-    taken = c.saturating-add-taken.ensures ∙ ap (λ k. min (k + 1) 255) (c.get.ensures ∙ kept c.sum.result rest_in ∙ ap next rest)
+    taken : c.saturating_add-taken.result ≡ min (next (step group label s) + 1) 255
+    taken = c.saturating_add-taken.ensures ∙ ap (λ k. min (k + 1) 255) (c.get.ensures ∙ kept c.sum.result rest_in ∙ ap next rest)
 
-    best : c.if-is-free.best ≡ turn group label (members_of c.args.free.now c.args.cell) next s
+    best : c.if-is_free.best ≡ turn group label (members_of c.args.free.now c.args.cell) next s
     best =
-        elim c.if-is-free.branch [
-          | then-is-free w ↦
-              turn_taken group label _ next s _ _ out _ (sym c.contains-is-free.ensures ∙ w.if-is-free.true) taken
+        elim c.if-is_free.branch [
+          | then-is_free w ↦
+              turn_taken group label _ next s _ _ out _ (sym c.contains-is_free.ensures ∙ w.if-is_free.true) taken
               (w.best-is ∙ w.min-best.ensures)
-          | else-is-free w ↦
-              turn_left group label _ next s _ _ out (sym c.contains-is-free.ensures ∙ w.if-is-free.false) w.best-is
+          | else-is_free w ↦
+              turn_left group label _ next s _ _ out (sym c.contains-is_free.ensures ∙ w.if-is_free.false) w.best-is
         ]
 
 pub returns : goal.returns

@@ -13,7 +13,7 @@ loop-cell-preserved g c =
     let laws = g.met.G.Group.lawful c.args.group.now in
     let same : c.loop-cell.cell ≡ c.loop-cell.cell - 1 + 1 = omega arith in
     filled_more _ laws c.requires.0 c.args.cells _ c.loop-cell.table _ (c.loop-cell.cell - 1) (omega arith)
-    (rw same at c.loop-cell.invariant) c.fill-row.ensures
+    (rw same at c.loop-cell.invariant) c.fill_row.ensures
 
 pub returns : goal.returns
 returns g c = let end : c.loop-cell.cell ≡ 0 = omega arith in rw end at c.loop-cell.invariant

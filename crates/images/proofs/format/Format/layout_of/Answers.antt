@@ -6,6 +6,6 @@ use Rattle.images.proofs.format.Format.layout_of.Goals as goal
 pub returns : goal.returns
 returns c = reads_accepted c.args.self c.args.image.now c.in-Ok.layout c.in-Ok.ensures.checks
 
-pub returns-in-default : goal.returns-in-default
-returns-in-default c =
-    reads_refused c.args.self c.args.image.now _ (image_number c.in-default.field-0) c.in-default.ensures.checks refl refl
+pub returns-in_default : goal.returns-in_default
+returns-in_default c =
+    reads_refused c.args.self c.args.image.now _ (image_number c.in_default.field-0) c.in_default.ensures.checks refl refl

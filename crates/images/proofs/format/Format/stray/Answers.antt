@@ -3,8 +3,8 @@ use Rattle.images.proofs.Checks.{stray_decided}
 use Rattle.images.proofs.Offsets.{page_within}
 use Rattle.images.proofs.format.Format.stray.Goals as goal
 
-pub bounds-image-page-at : goal.bounds-image-page-at
-bounds-image-page-at c =
+pub bounds-image-page_at : goal.bounds-image-page_at
+bounds-image-page_at c =
     let l = c.args.layout in
     let inside = page_within l.width c.args.page l.pages c.requires.1 in
     omega arith
@@ -13,4 +13,4 @@ pub returns : goal.returns
 returns c =
     let l = c.args.layout in
     stray_decided c.args.self l.pages l.width c.args.image.now c.args.page _ _ c.requires.0 (omega arith)
-    (ap (λ at. get_or c.args.image.now (at + (c.page-bytes-last.result - 1)) 0) c.page_at.ensures) c.reads-any.result c.reads-any.ensures
+    (ap (λ at. get_or c.args.image.now (at + (c.page_bytes-last.result - 1)) 0) c.page_at.ensures) c.reads_any.result c.reads_any.ensures

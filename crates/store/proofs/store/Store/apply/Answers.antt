@@ -21,10 +21,10 @@ loop-call-preserved g c =
       (λ whole. served.intact (inv.1 whole)),
       served.group ∙ inv.2,
       served.n ∙ inv.3,
-      c.push-reserved.ensures.len ∙ ap (λ k. k + 1) inv.4,
-      (let room = inv.5 in let same = c.push-reserved.ensures.capacity in omega arith),
+      c.push_reserved.ensures.len ∙ ap (λ k. k + 1) inv.4,
+      (let room = inv.5 in let same = c.push_reserved.ensures.capacity in omega arith),
       subst₂ (λ calls answers. Runs co first calls answers after) (sym (take_more c.args.calls.now i (Get 0) c.loop-call-test.true))
-          (sym c.push-reserved.ensures.items)
+          (sym c.push_reserved.ensures.items)
           (runs_more co first (take i c.args.calls.now) (vec_items c.loop-call.answers) before after call c.serve-answer.result inv.6
           (subst₂ (λ gr n. Obeys (code (g.G.Group.meaning gr) n) call c.serve-answer.result before after) inv.2 inv.3 served.obeys)),
     )

@@ -10,10 +10,10 @@ use Rattle.store.proofs.store.Store.apply_accesses.Goals as goal
 pub loop-access-preserved : goal.loop-access-preserved
 loop-access-preserved g c =
     let inv = c.loop-access.invariant in
-    let served = c.serve-access-answer.ensures in
+    let served = c.serve_access-answer.ensures in
     let first = state_of (g.A.CellArray.cells c.args.self.now.array) c.args.self.now.ledger in
     let before = state_of (g.A.CellArray.cells c.loop-access.self.array) c.loop-access.self.ledger in
-    let after = state_of (g.A.CellArray.cells c.serve-access-answer.new.self.array) c.serve-access-answer.new.self.ledger in
+    let after = state_of (g.A.CellArray.cells c.serve_access-answer.new.self.array) c.serve_access-answer.new.self.ledger in
     let co = code (g.G.Group.meaning c.args.self.now.group) c.args.self.now.n in
     let i = c.loop-access.access-index in
     let access = get_or c.args.accesses.now i (Get 0) in (
@@ -21,12 +21,12 @@ loop-access-preserved g c =
       (λ whole. served.intact (inv.1 whole)),
       served.group ∙ inv.2,
       served.n ∙ inv.3,
-      c.push-reserved.ensures.len ∙ ap (λ k. k + 1) inv.4,
-      (let room = inv.5 in let same = c.push-reserved.ensures.capacity in omega arith),
+      c.push_reserved.ensures.len ∙ ap (λ k. k + 1) inv.4,
+      (let room = inv.5 in let same = c.push_reserved.ensures.capacity in omega arith),
       subst₂ (λ calls answers. Runs co first calls answers after) (sym (ap (map as_call) (take_more c.args.accesses.now i (Get 0) c.loop-access-test.true) ∙ map_push as_call (take i c.args.accesses.now) access))
-          (sym c.push-reserved.ensures.items)
-          (runs_more co first (map as_call (take i c.args.accesses.now)) (vec_items c.loop-access.answers) before after (as_call access) c.serve-access-answer.result inv.6
-          (subst₂ (λ gr n. Obeys (code (g.G.Group.meaning gr) n) (as_call access) c.serve-access-answer.result before after) inv.2 inv.3 served.obeys)),
+          (sym c.push_reserved.ensures.items)
+          (runs_more co first (map as_call (take i c.args.accesses.now)) (vec_items c.loop-access.answers) before after (as_call access) c.serve_access-answer.result inv.6
+          (subst₂ (λ gr n. Obeys (code (g.G.Group.meaning gr) n) (as_call access) c.serve_access-answer.result before after) inv.2 inv.3 served.obeys)),
     )
 
 pub returns : goal.returns

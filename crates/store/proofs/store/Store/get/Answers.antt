@@ -7,16 +7,16 @@ use Rattle.store.proofs.store.Store.get.Goals as goal
 pub read-held-requires : goal.read-held-requires
 read-held-requires g c =
     found_inside (code (g.G.Group.meaning c.args.self.now.group) c.args.self.now.n) (g.A.CellArray.cells c.args.self.now.array)
-    c.args.«record» c.in-ok-at.at c.in-ok-at.ensures
+    c.args.«record» c.in_ok-at.at c.in_ok-at.ensures
 
 pub returns : goal.returns
 returns g c =
-    let found = c.in-ok-at.ensures in (
+    let found = c.in_ok-at.ensures in (
       (λ h. omega (arith, found.0), tt),
       (
-        c.label-sum.ensures
+        c.label_sum.ensures
             ∙ read_value (code (g.G.Group.meaning c.args.self.now.group) c.args.self.now.n) (g.A.CellArray.cells c.args.self.now.array)
-            c.args.«record» c.in-ok-at.at found (members_of c.read_held.result) c.read_held.ensures,
+            c.args.«record» c.in_ok-at.at found (members_of c.read_held.result) c.read_held.ensures,
         refl,
       ),
       refl,

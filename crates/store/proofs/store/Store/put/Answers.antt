@@ -7,25 +7,25 @@ use Rattle.store.proofs.store.Store.put.Goals as goal
 pub read-held-requires : goal.read-held-requires
 read-held-requires g c =
     found_inside (code (g.G.Group.meaning c.args.self.now.group) c.args.self.now.n) (g.A.CellArray.cells c.args.self.now.array)
-    c.args.«record» c.in-ok-at.at c.in-ok-at.ensures
+    c.args.«record» c.in_ok-at.at c.in_ok-at.ensures
 
 pub write-marked-requires : goal.write-marked-requires
 write-marked-requires g c =
     found_inside (code (g.G.Group.meaning c.args.self.now.group) c.args.self.now.n) (g.A.CellArray.cells c.args.self.now.array)
-    c.args.«record» c.in-ok-at.at c.in-ok-at.ensures
+    c.args.«record» c.in_ok-at.at c.in_ok-at.ensures
 
-pub returns-in-default : goal.returns-in-default
-returns-in-default g c =
+pub returns-in_default : goal.returns-in_default
+returns-in_default g c =
     let full =
     put_full (code (g.G.Group.meaning c.args.self.now.group) c.args.self.now.n) (g.A.CellArray.cells c.args.self.now.array)
-    c.args.«record» c.in-ok-at.at c.in-ok-at.ensures (members_of c.read_held.result) c.read_held.ensures
-    c.args.value c.label-sum-old.result (omega arith) c.label-sum-old.ensures c.in-default.ensures in
+    c.args.«record» c.in_ok-at.at c.in_ok-at.ensures (members_of c.read_held.result) c.read_held.ensures
+    c.args.value c.label_sum-old.result (omega arith) c.label_sum-old.ensures c.in_default.ensures in
     record { held = refl; intact = λ whole. whole; group = refl; n = refl; obeys = (full, refl, refl) }
 
 pub returns : goal.returns
 returns g c =
     let wrote = c.write-marked.ensures in
-    let noted = c.note-put.ensures in
+    let noted = c.note_put.ensures in
     record {
       held = wrote.held;
       intact = wrote.intact;
@@ -33,8 +33,8 @@ returns g c =
       n = refl;
       obeys =
           put_served (code (g.G.Group.meaning c.args.self.now.group) c.args.self.now.n) (g.A.CellArray.cells c.args.self.now.array)
-          c.args.«record» c.in-ok-at.at c.in-ok-at.ensures (members_of c.read_held.result) c.read_held.ensures
-          c.args.value c.label-sum-old.result (omega arith) c.label-sum-old.ensures (members_of c.in-Some.plan)
-          (g.A.CellArray.cells c.write-marked.new.array) c.args.self.now.ledger c.note-put.new.self c.write-marked.result
+          c.args.«record» c.in_ok-at.at c.in_ok-at.ensures (members_of c.read_held.result) c.read_held.ensures
+          c.args.value c.label_sum-old.result (omega arith) c.label_sum-old.ensures (members_of c.in-Some.plan)
+          (g.A.CellArray.cells c.write-marked.new.array) c.args.self.now.ledger c.note_put.new.self c.write-marked.result
           c.in-Some.ensures wrote.sets wrote.count noted.changes noted.renewals noted.marked;
     }

@@ -18,65 +18,65 @@ use Rattle.store.proofs.store.Store.renew.Goals as goal
 pub read-held-requires : goal.read-held-requires
 read-held-requires g c =
     found_inside (code (g.G.Group.meaning c.args.self.now.group) c.args.self.now.n) (g.A.CellArray.cells c.args.self.now.array)
-    c.args.«record» c.in-ok-at.at c.in-ok-at.ensures
+    c.args.«record» c.in_ok-at.at c.in_ok-at.ensures
 
-pub returns-then-is-some : goal.returns-then-is-some
-returns-then-is-some g c =
+pub returns-then-is_some : goal.returns-then-is_some
+returns-then-is_some g c =
     let fits =
     renew_fits (code (g.G.Group.meaning c.args.self.now.group) c.args.self.now.n) (g.A.CellArray.cells c.args.self.now.array)
-    c.args.«record» c.in-ok-at.at c.in-ok-at.ensures (members_of c.read_held.result) c.read_held.ensures
-    c.args.value c.label-sum-old.result (omega arith) c.label-sum-old.ensures
+    c.args.«record» c.in_ok-at.at c.in_ok-at.ensures (members_of c.read_held.result) c.read_held.ensures
+    c.args.value c.label_sum-old.result (omega arith) c.label_sum-old.ensures
     (found_plan (code (g.G.Group.meaning c.args.self.now.group) c.args.self.now.n) (λ i. not (members_of c.read_held.result i))
-    (step (g.G.Group.meaning c.args.self.now.group) c.label-sum-old.result c.args.value) c.plan-step.result (sym c.is-some.ensures ∙ c.if-is-some.true) c.plan-step.ensures) in
+    (step (g.G.Group.meaning c.args.self.now.group) c.label_sum-old.result c.args.value) c.plan_step.result (sym c.is_some.ensures ∙ c.if-is_some.true) c.plan_step.ensures) in
     record { held = refl; intact = λ whole. whole; group = refl; n = refl; obeys = (fits, refl, refl) }
 
-pub plan-page-requires : goal.plan-page-requires
-plan-page-requires g c =
+pub plan_page-requires : goal.plan_page-requires
+plan_page-requires g c =
     let co = code (g.G.Group.meaning c.args.self.now.group) c.args.self.now.n in
     let m = g.A.CellArray.cells c.args.self.now.array in
-    let found = c.in-ok-at.ensures in
+    let found = c.in_ok-at.ensures in
     let t = there co m c.args.«record» found.0 in
-    let shared = c.per-page-per-page.ensures ∙ records_to_page co m c.args.«record» found.0 in
+    let shared = c.per_page-per-page.ensures ∙ records_to_page co m c.args.«record» found.0 in
     let few = t.few in
     record { some = t.some; few = omega arith; page = rw found.1 t.page; named = rw shared t.place }
 
-pub returns-in-default : goal.returns-in-default
-returns-in-default g c =
+pub returns-in_default : goal.returns-in_default
+returns-in_default g c =
     let far =
     renew_unreached (code (g.G.Group.meaning c.args.self.now.group) c.args.self.now.n) (g.A.CellArray.cells c.args.self.now.array)
-    c.args.«record» c.in-ok-at.at c.in-ok-at.ensures (members_of c.read_held.result) c.read_held.ensures
-    c.args.value c.label-sum-old.result (omega arith) c.label-sum-old.ensures
+    c.args.«record» c.in_ok-at.at c.in_ok-at.ensures (members_of c.read_held.result) c.read_held.ensures
+    c.args.value c.label_sum-old.result (omega arith) c.label_sum-old.ensures
     (no_plan (code (g.G.Group.meaning c.args.self.now.group) c.args.self.now.n) (λ i. not (members_of c.read_held.result i))
-    (step (g.G.Group.meaning c.args.self.now.group) c.label-sum-old.result c.args.value) c.plan-step.result (sym c.is-some.ensures ∙ c.if-is-some.false) c.plan-step.ensures) c.in-default.ensures in
+    (step (g.G.Group.meaning c.args.self.now.group) c.label_sum-old.result c.args.value) c.plan_step.result (sym c.is_some.ensures ∙ c.if-is_some.false) c.plan_step.ensures) c.in_default.ensures in
     record { held = refl; intact = λ whole. whole; group = refl; n = refl; obeys = (far, refl, refl) }
 
-pub returns-in-err-located-at : goal.returns-in-err-located-at
-returns-in-err-located-at g c =
+pub returns-in_err-located_at : goal.returns-in_err-located_at
+returns-in_err-located_at g c =
     let co = code (g.G.Group.meaning c.args.self.now.group) c.args.self.now.n in
     let m = g.A.CellArray.cells c.args.self.now.array in
-    let found = c.in-ok-at.ensures in
+    let found = c.in_ok-at.ensures in
     let t = there co m c.args.«record» found.0 in
-    let shared = c.per-page-per-page.ensures ∙ records_to_page co m c.args.«record» found.0 in
+    let shared = c.per_page-per-page.ensures ∙ records_to_page co m c.args.«record» found.0 in
     let erased = c.erase.ensures in
-    let e = c.in-err-located-at.field-0.0 in
+    let e = c.in_err-located_at.field-0.0 in
     let fault =
-    erase_refused_at c.args.«record» c.in-ok-at.at.page m (g.A.CellArray.cells c.erase.new.self) c.erase.result e
-    (sym c.located-at.ensures ∙ c.in-err-located-at.was) erased.erases in
-    let why = erase_refused m c.in-ok-at.at.page (device_number e.1) (rw found.1 t.page) fault.0 in
+    erase_refused_at c.args.«record» c.in_ok-at.at.page m (g.A.CellArray.cells c.erase.new.self) c.erase.result e
+    (sym c.located_at.ensures ∙ c.in_err-located_at.was) erased.erases in
+    let why = erase_refused m c.in_ok-at.at.page (device_number e.1) (rw found.1 t.page) fault.0 in
     let worn =
     renew_worn (code (g.G.Group.meaning c.args.self.now.group) c.args.self.now.n) (g.A.CellArray.cells c.args.self.now.array)
-    c.args.«record» c.in-ok-at.at c.in-ok-at.ensures (members_of c.read_held.result) c.read_held.ensures
-    c.args.value c.label-sum-old.result (omega arith) c.label-sum-old.ensures
+    c.args.«record» c.in_ok-at.at c.in_ok-at.ensures (members_of c.read_held.result) c.read_held.ensures
+    c.args.value c.label_sum-old.result (omega arith) c.label_sum-old.ensures
     (no_plan (code (g.G.Group.meaning c.args.self.now.group) c.args.self.now.n) (λ i. not (members_of c.read_held.result i))
-    (step (g.G.Group.meaning c.args.self.now.group) c.label-sum-old.result c.args.value) c.plan-step.result (sym c.is-some.ensures ∙ c.if-is-some.false) c.plan-step.ensures) c.in-Some.plans.plans
-    (subst (λ b. PlansOfPage co m c.in-ok-at.at.page (c.args.«record» % b) c.args.value (per_page co m) c.in-Some.plans.plans) shared c.in-Some.ensures) why.0 in
+    (step (g.G.Group.meaning c.args.self.now.group) c.label_sum-old.result c.args.value) c.plan_step.result (sym c.is_some.ensures ∙ c.if-is_some.false) c.plan_step.ensures) c.in-Some.plans.plans
+    (subst (λ b. PlansOfPage co m c.in_ok-at.at.page (c.args.«record» % b) c.args.value (per_page co m) c.in-Some.plans.plans) shared c.in-Some.ensures) why.0 in
     record {
       held = erased.held;
       intact = erased.intact;
       group = refl;
       n = refl;
       obeys =
-          let p = err_from_is_err_and c.from-residual-in-err-located-at.result c.from-residual-in-err-located-at.ensures.1 in
+          let p = err_from_is_err_and c.from_residual-in_err-located_at.result c.from_residual-in_err-located_at.ensures.1 in
           rw (p.1, p.2) (
             subst (λ d. Refused (rows co m (Renew c.args.«record» c.args.value)) d) (sym why.1) worn,
             (fault.3, rw (← found.1) fault.1),
@@ -84,23 +84,23 @@ returns-in-err-located-at g c =
           );
     }
 
-pub write-page-marked-requires : goal.write-page-marked-requires
-write-page-marked-requires g c =
+pub write_page-marked-requires : goal.write_page-marked-requires
+write_page-marked-requires g c =
     let co = code (g.G.Group.meaning c.args.self.now.group) c.args.self.now.n in
     let m = g.A.CellArray.cells c.args.self.now.array in
-    let found = c.in-ok-at.ensures in
+    let found = c.in_ok-at.ensures in
     let t = there co m c.args.«record» found.0 in
-    let shared = c.per-page-per-page.ensures ∙ records_to_page co m c.args.«record» found.0 in
+    let shared = c.per_page-per-page.ensures ∙ records_to_page co m c.args.«record» found.0 in
     let done =
-    erase_served c.args.«record» c.in-ok-at.at.page m (g.A.CellArray.cells c.erase.new.self) c.erase.result tt
-    (sym c.located-at.ensures ∙ c.in-ok-located-at.was) c.erase.ensures.erases in
+    erase_served c.args.«record» c.in_ok-at.at.page m (g.A.CellArray.cells c.erase.new.self) c.erase.result tt
+    (sym c.located_at.ensures ∙ c.in_ok-located_at.was) c.erase.ensures.erases in
     let erased = done.1 in
     let few = t.few in
     record {
       some = t.some;
       few = omega arith;
       shared = omega arith;
-      fits = rw erased.shape.width (page_fits c.args.self.now.n m.width c.per-page-per-page.result (omega arith));
+      fits = rw erased.shape.width (page_fits c.args.self.now.n m.width c.per_page-per-page.result (omega arith));
       page = rw (erased.shape.pages, found.1) t.page;
       unset = λ j h. erased.here j (rw (← erased.shape.width) h);
     }
@@ -109,15 +109,15 @@ pub returns : goal.returns
 returns g c =
     let co = code (g.G.Group.meaning c.args.self.now.group) c.args.self.now.n in
     let m = g.A.CellArray.cells c.args.self.now.array in
-    let found = c.in-ok-at.ensures in
+    let found = c.in_ok-at.ensures in
     let t = there co m c.args.«record» found.0 in
-    let shared = c.per-page-per-page.ensures ∙ records_to_page co m c.args.«record» found.0 in
+    let shared = c.per_page-per-page.ensures ∙ records_to_page co m c.args.«record» found.0 in
     let erased = c.erase.ensures in
     let done =
-    erase_served c.args.«record» c.in-ok-at.at.page m (g.A.CellArray.cells c.erase.new.self) c.erase.result tt
-    (sym c.located-at.ensures ∙ c.in-ok-located-at.was) c.erase.ensures.erases in
-    let wrote = c.write-page-marked.ensures in
-    let noted = c.note-renewal.ensures in
+    erase_served c.args.«record» c.in_ok-at.at.page m (g.A.CellArray.cells c.erase.new.self) c.erase.result tt
+    (sym c.located_at.ensures ∙ c.in_ok-located_at.was) c.erase.ensures.erases in
+    let wrote = c.write_page-marked.ensures in
+    let noted = c.note_renewal.ensures in
     record {
       held = wrote.held ∙ erased.held;
       intact = λ whole. wrote.intact (erased.intact whole);
@@ -125,12 +125,12 @@ returns g c =
       n = refl;
       obeys =
           renew_served (code (g.G.Group.meaning c.args.self.now.group) c.args.self.now.n) (g.A.CellArray.cells c.args.self.now.array)
-          c.args.«record» c.in-ok-at.at c.in-ok-at.ensures (members_of c.read_held.result) c.read_held.ensures
-          c.args.value c.label-sum-old.result (omega arith) c.label-sum-old.ensures
+          c.args.«record» c.in_ok-at.at c.in_ok-at.ensures (members_of c.read_held.result) c.read_held.ensures
+          c.args.value c.label_sum-old.result (omega arith) c.label_sum-old.ensures
           (no_plan (code (g.G.Group.meaning c.args.self.now.group) c.args.self.now.n) (λ i. not (members_of c.read_held.result i))
-          (step (g.G.Group.meaning c.args.self.now.group) c.label-sum-old.result c.args.value) c.plan-step.result (sym c.is-some.ensures ∙ c.if-is-some.false) c.plan-step.ensures) c.in-Some.plans.plans
-          (subst (λ b. PlansOfPage co m c.in-ok-at.at.page (c.args.«record» % b) c.args.value (per_page co m) c.in-Some.plans.plans) shared c.in-Some.ensures) (g.A.CellArray.cells c.erase.new.self)
-          (g.A.CellArray.cells c.write-page-marked.new.array) c.args.self.now.ledger c.note-renewal.new.self
-          c.write-page-marked.result done.0.1.0 done.1
-          (subst (λ b. PageWritten c.args.self.now.n c.in-ok-at.at.page b c.in-Some.plans.plans (g.A.CellArray.cells c.erase.new.self) (g.A.CellArray.cells c.write-page-marked.new.array) c.write-page-marked.result) shared wrote.written) noted.changes noted.renewals noted.marked;
+          (step (g.G.Group.meaning c.args.self.now.group) c.label_sum-old.result c.args.value) c.plan_step.result (sym c.is_some.ensures ∙ c.if-is_some.false) c.plan_step.ensures) c.in-Some.plans.plans
+          (subst (λ b. PlansOfPage co m c.in_ok-at.at.page (c.args.«record» % b) c.args.value (per_page co m) c.in-Some.plans.plans) shared c.in-Some.ensures) (g.A.CellArray.cells c.erase.new.self)
+          (g.A.CellArray.cells c.write_page-marked.new.array) c.args.self.now.ledger c.note_renewal.new.self
+          c.write_page-marked.result done.0.1.0 done.1
+          (subst (λ b. PageWritten c.args.self.now.n c.in_ok-at.at.page b c.in-Some.plans.plans (g.A.CellArray.cells c.erase.new.self) (g.A.CellArray.cells c.write_page-marked.new.array) c.write_page-marked.result) shared wrote.written) noted.changes noted.renewals noted.marked;
     }
