@@ -5,14 +5,14 @@ use Rattle.coset.proofs.planner.Table.filled.Goals as goal
 pub loop-cell-init : goal.loop-cell-init
 loop-cell-init g c =
     let laws = g.met.G.Group.lawful c.args.group.now in
-    filled_starts _ laws c.requires.0 c.args.cells _ c.unreached-table.result _ c.requires.1
+    filled_starts _ laws c.requires.usable c.args.cells _ c.unreached-table.result _ c.requires.cells_bound
     c.unreached-table.ensures c.put.ensures
 
 pub loop-cell-preserved : goal.loop-cell-preserved
 loop-cell-preserved g c =
     let laws = g.met.G.Group.lawful c.args.group.now in
     let same : c.loop-cell.cell ≡ c.loop-cell.cell - 1 + 1 = omega arith in
-    filled_more _ laws c.requires.0 c.args.cells _ c.loop-cell.table _ (c.loop-cell.cell - 1) (omega arith)
+    filled_more _ laws c.requires.usable c.args.cells _ c.loop-cell.table _ (c.loop-cell.cell - 1) (omega arith)
     (rw same at c.loop-cell.invariant) c.fill_row.ensures
 
 pub returns : goal.returns

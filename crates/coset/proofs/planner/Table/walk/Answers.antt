@@ -21,10 +21,10 @@ loop-cell-preserved g c =
           walk_takes group laws c.requires.usable c.args.cells _ c.args.self.now c.requires.filled c.args.step
           cell c.loop-cell-test.true _ c.loop-cell.rest c.loop-cell.invariant
           _ (λ j. ap (λ s. members_of s j) w.chosen-is ∙ w.insert.ensures.taken (omega arith) j)
-          _ (w.rest_is ∙ rest) (sym c.contains.ensures ∙ w.if-contains.true)
-          (omega (arith, ap next w.rest_is))
+          _ (w.rest-is ∙ rest) (sym c.contains.ensures ∙ w.if-contains.true)
+          (omega (arith, ap next w.rest-is))
       | else-contains w ↦
-          rw (w.chosen-is, w.rest_is)
+          rw (w.chosen-is, w.rest-is)
           (walk_leaves group laws c.requires.usable c.args.cells _ c.args.self.now c.requires.filled c.args.step
           cell c.loop-cell-test.true _ c.loop-cell.rest c.loop-cell.invariant
           (elim w.else-contains.branch [
