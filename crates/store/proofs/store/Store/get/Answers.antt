@@ -16,7 +16,7 @@ returns g c =
       (
         c.label_sum.ensures
             ∙ read_value (code (g.G.Group.meaning c.args.self.now.group) c.args.self.now.n) (g.A.CellArray.cells c.args.self.now.array)
-            c.args.«record» c.in_ok-at.at found (members_of c.read_held.result) c.read_held.ensures,
+            c.args.«record» c.in_ok-at.at found (members_of c.read-held.result) c.read-held.ensures,
         refl,
       ),
       refl,

@@ -18,7 +18,7 @@ pub returns-in_default : goal.returns-in_default
 returns-in_default g c =
     let full =
     put_full (code (g.G.Group.meaning c.args.self.now.group) c.args.self.now.n) (g.A.CellArray.cells c.args.self.now.array)
-    c.args.«record» c.in_ok-at.at c.in_ok-at.ensures (members_of c.read_held.result) c.read_held.ensures
+    c.args.«record» c.in_ok-at.at c.in_ok-at.ensures (members_of c.read-held.result) c.read-held.ensures
     c.args.value c.label_sum-old.result (omega arith) c.label_sum-old.ensures c.in_default.ensures in
     record { held = refl; intact = λ whole. whole; group = refl; n = refl; obeys = (full, refl, refl) }
 
@@ -33,7 +33,7 @@ returns g c =
       n = refl;
       obeys =
           put_served (code (g.G.Group.meaning c.args.self.now.group) c.args.self.now.n) (g.A.CellArray.cells c.args.self.now.array)
-          c.args.«record» c.in_ok-at.at c.in_ok-at.ensures (members_of c.read_held.result) c.read_held.ensures
+          c.args.«record» c.in_ok-at.at c.in_ok-at.ensures (members_of c.read-held.result) c.read-held.ensures
           c.args.value c.label_sum-old.result (omega arith) c.label_sum-old.ensures (members_of c.in-Some.plan)
           (g.A.CellArray.cells c.write-marked.new.array) c.args.self.now.ledger c.note_put.new.self c.write-marked.result
           c.in-Some.ensures wrote.sets wrote.count noted.changes noted.renewals noted.marked;

@@ -24,9 +24,9 @@ pub returns-then-is_some : goal.returns-then-is_some
 returns-then-is_some g c =
     let fits =
     renew_fits (code (g.G.Group.meaning c.args.self.now.group) c.args.self.now.n) (g.A.CellArray.cells c.args.self.now.array)
-    c.args.«record» c.in_ok-at.at c.in_ok-at.ensures (members_of c.read_held.result) c.read_held.ensures
+    c.args.«record» c.in_ok-at.at c.in_ok-at.ensures (members_of c.read-held.result) c.read-held.ensures
     c.args.value c.label_sum-old.result (omega arith) c.label_sum-old.ensures
-    (found_plan (code (g.G.Group.meaning c.args.self.now.group) c.args.self.now.n) (λ i. not (members_of c.read_held.result i))
+    (found_plan (code (g.G.Group.meaning c.args.self.now.group) c.args.self.now.n) (λ i. not (members_of c.read-held.result i))
     (step (g.G.Group.meaning c.args.self.now.group) c.label_sum-old.result c.args.value) c.plan_step.result (sym c.is_some.ensures ∙ c.if-is_some.true) c.plan_step.ensures) in
     record { held = refl; intact = λ whole. whole; group = refl; n = refl; obeys = (fits, refl, refl) }
 
@@ -36,7 +36,7 @@ plan_page-requires g c =
     let m = g.A.CellArray.cells c.args.self.now.array in
     let found = c.in_ok-at.ensures in
     let t = there co m c.args.«record» found.0 in
-    let shared = c.per_page-per-page.ensures ∙ records_to_page co m c.args.«record» found.0 in
+    let shared = c.per_page-per_page.ensures ∙ records_to_page co m c.args.«record» found.0 in
     let few = t.few in
     record { some = t.some; few = omega arith; page = rw found.1 t.page; named = rw shared t.place }
 
@@ -44,9 +44,9 @@ pub returns-in_default : goal.returns-in_default
 returns-in_default g c =
     let far =
     renew_unreached (code (g.G.Group.meaning c.args.self.now.group) c.args.self.now.n) (g.A.CellArray.cells c.args.self.now.array)
-    c.args.«record» c.in_ok-at.at c.in_ok-at.ensures (members_of c.read_held.result) c.read_held.ensures
+    c.args.«record» c.in_ok-at.at c.in_ok-at.ensures (members_of c.read-held.result) c.read-held.ensures
     c.args.value c.label_sum-old.result (omega arith) c.label_sum-old.ensures
-    (no_plan (code (g.G.Group.meaning c.args.self.now.group) c.args.self.now.n) (λ i. not (members_of c.read_held.result i))
+    (no_plan (code (g.G.Group.meaning c.args.self.now.group) c.args.self.now.n) (λ i. not (members_of c.read-held.result i))
     (step (g.G.Group.meaning c.args.self.now.group) c.label_sum-old.result c.args.value) c.plan_step.result (sym c.is_some.ensures ∙ c.if-is_some.false) c.plan_step.ensures) c.in_default.ensures in
     record { held = refl; intact = λ whole. whole; group = refl; n = refl; obeys = (far, refl, refl) }
 
@@ -56,7 +56,7 @@ returns-in_err-located_at g c =
     let m = g.A.CellArray.cells c.args.self.now.array in
     let found = c.in_ok-at.ensures in
     let t = there co m c.args.«record» found.0 in
-    let shared = c.per_page-per-page.ensures ∙ records_to_page co m c.args.«record» found.0 in
+    let shared = c.per_page-per_page.ensures ∙ records_to_page co m c.args.«record» found.0 in
     let erased = c.erase.ensures in
     let e = c.in_err-located_at.field-0.0 in
     let fault =
@@ -65,9 +65,9 @@ returns-in_err-located_at g c =
     let why = erase_refused m c.in_ok-at.at.page (device_number e.1) (rw found.1 t.page) fault.0 in
     let worn =
     renew_worn (code (g.G.Group.meaning c.args.self.now.group) c.args.self.now.n) (g.A.CellArray.cells c.args.self.now.array)
-    c.args.«record» c.in_ok-at.at c.in_ok-at.ensures (members_of c.read_held.result) c.read_held.ensures
+    c.args.«record» c.in_ok-at.at c.in_ok-at.ensures (members_of c.read-held.result) c.read-held.ensures
     c.args.value c.label_sum-old.result (omega arith) c.label_sum-old.ensures
-    (no_plan (code (g.G.Group.meaning c.args.self.now.group) c.args.self.now.n) (λ i. not (members_of c.read_held.result i))
+    (no_plan (code (g.G.Group.meaning c.args.self.now.group) c.args.self.now.n) (λ i. not (members_of c.read-held.result i))
     (step (g.G.Group.meaning c.args.self.now.group) c.label_sum-old.result c.args.value) c.plan_step.result (sym c.is_some.ensures ∙ c.if-is_some.false) c.plan_step.ensures) c.in-Some.plans.plans
     (subst (λ b. PlansOfPage co m c.in_ok-at.at.page (c.args.«record» % b) c.args.value (per_page co m) c.in-Some.plans.plans) shared c.in-Some.ensures) why.0 in
     record {
@@ -90,7 +90,7 @@ write_page-marked-requires g c =
     let m = g.A.CellArray.cells c.args.self.now.array in
     let found = c.in_ok-at.ensures in
     let t = there co m c.args.«record» found.0 in
-    let shared = c.per_page-per-page.ensures ∙ records_to_page co m c.args.«record» found.0 in
+    let shared = c.per_page-per_page.ensures ∙ records_to_page co m c.args.«record» found.0 in
     let done =
     erase_served c.args.«record» c.in_ok-at.at.page m (g.A.CellArray.cells c.erase.new.self) c.erase.result tt
     (sym c.located_at.ensures ∙ c.in_ok-located_at.was) c.erase.ensures.erases in
@@ -100,7 +100,7 @@ write_page-marked-requires g c =
       some = t.some;
       few = omega arith;
       shared = omega arith;
-      fits = rw erased.shape.width (page_fits c.args.self.now.n m.width c.per_page-per-page.result (omega arith));
+      fits = rw erased.shape.width (page_fits c.args.self.now.n m.width c.per_page-per_page.result (omega arith));
       page = rw (erased.shape.pages, found.1) t.page;
       unset = λ j h. erased.here j (rw (← erased.shape.width) h);
     }
@@ -111,7 +111,7 @@ returns g c =
     let m = g.A.CellArray.cells c.args.self.now.array in
     let found = c.in_ok-at.ensures in
     let t = there co m c.args.«record» found.0 in
-    let shared = c.per_page-per-page.ensures ∙ records_to_page co m c.args.«record» found.0 in
+    let shared = c.per_page-per_page.ensures ∙ records_to_page co m c.args.«record» found.0 in
     let erased = c.erase.ensures in
     let done =
     erase_served c.args.«record» c.in_ok-at.at.page m (g.A.CellArray.cells c.erase.new.self) c.erase.result tt
@@ -125,9 +125,9 @@ returns g c =
       n = refl;
       obeys =
           renew_served (code (g.G.Group.meaning c.args.self.now.group) c.args.self.now.n) (g.A.CellArray.cells c.args.self.now.array)
-          c.args.«record» c.in_ok-at.at c.in_ok-at.ensures (members_of c.read_held.result) c.read_held.ensures
+          c.args.«record» c.in_ok-at.at c.in_ok-at.ensures (members_of c.read-held.result) c.read-held.ensures
           c.args.value c.label_sum-old.result (omega arith) c.label_sum-old.ensures
-          (no_plan (code (g.G.Group.meaning c.args.self.now.group) c.args.self.now.n) (λ i. not (members_of c.read_held.result i))
+          (no_plan (code (g.G.Group.meaning c.args.self.now.group) c.args.self.now.n) (λ i. not (members_of c.read-held.result i))
           (step (g.G.Group.meaning c.args.self.now.group) c.label_sum-old.result c.args.value) c.plan_step.result (sym c.is_some.ensures ∙ c.if-is_some.false) c.plan_step.ensures) c.in-Some.plans.plans
           (subst (λ b. PlansOfPage co m c.in_ok-at.at.page (c.args.«record» % b) c.args.value (per_page co m) c.in-Some.plans.plans) shared c.in-Some.ensures) (g.A.CellArray.cells c.erase.new.self)
           (g.A.CellArray.cells c.write_page-marked.new.array) c.args.self.now.ledger c.note_renewal.new.self
