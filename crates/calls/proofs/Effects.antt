@@ -4,8 +4,8 @@ use Rattle.std.proofs.lemmas.Bool.{not-true, both_ways}
 use Rattle.group.specs.Group.{Group, Lawful, Usable, In, step}
 use Rattle.cells.specs.Cells.{Cells}
 use Rattle.cells.specs.Sets.{Cellset}
-use Rattle.coset.specs.Code.{Code, code, every, Reaches, Plan}
-use Rattle.calls.specs.Records.{per_page, records, page_of, held, free, value}
+use Rattle.coset.specs.Code.{Code, code, Reaches, Plan}
+use Rattle.calls.specs.Records.{per_page, page_of, held, free, value}
 use Rattle.calls.specs.Calls.{Sets}
 use Rattle.coset.proofs.Groups.{step_leads}
 use Rattle.coset.proofs.Sums.{either, Apart, Agree, sum_in, sum_agree, sum_either, label_in}

@@ -1,5 +1,5 @@
 -- Changes per erase: between two renewals of a page there are at least h changes. Assumes nothing.
-use Rattle.std.proofs.Common.{◌≡◌, ℕ, zero, suc, ◌+◌, ◌-◌, ◌*◌, ◌%◌, ◌<◌, ◌≤◌, Bool, true, false, cond, not, ◌&&◌, eqb, ◌⊎◌, List, [], ◌∷◌, Ok, Err, sym, refl, ap, ◌∙◌, subst, ap₂, inl, inr, mul-zero, mul-one, mul-add, arith}
+use Rattle.std.proofs.Common.{◌≡◌, ℕ, zero, suc, ◌+◌, ◌*◌, ◌%◌, ◌<◌, ◌≤◌, Bool, true, false, cond, not, ◌&&◌, eqb, ◌⊎◌, List, [], ◌∷◌, Ok, Err, sym, refl, ap, ◌∙◌, subst, ap₂, inl, inr, mul-zero, mul-one, mul-add, arith}
 use Rattle.std.proofs.lemmas.Bool.{cases_eq, cases_lt, eq-eqb, ne_eqb, false≢true}
 use Rattle.group.specs.Group.{Group, Lawful, Usable, In, step, figure}
 use Rattle.cells.specs.Cells.{Cells, Shaped}
@@ -7,9 +7,9 @@ use Rattle.cells.specs.Sets.{Cellset, size_below}
 use Rattle.calls.specs.declared.call.Call.{Call}
 use Rattle.calls.specs.declared.call.Call.TheVariants.{Get, Put, Renew}
 use Rattle.coset.specs.Code.{Code, code, every, size_of, Reaches, Reachable, Plan}
-use Rattle.calls.specs.Records.{per_page, records, page_of, held, free, value}
+use Rattle.calls.specs.Records.{per_page, page_of, held, free, value}
 use Rattle.calls.specs.Calls.{State, Answer, Sets, Renewed, renewed_value, Obeys}
-use Rattle.calls.specs.History.{Event, Linked, Every, total, accepted, is_renewal, is_change, renewed, changed, on_page, renewals, changes}
+use Rattle.calls.specs.History.{Event, Linked, Every, total, is_renewal, is_change, renewed, changed, on_page, renewals, changes}
 use Rattle.coset.proofs.Groups.{step_in, step_same, step_zero}
 use Rattle.coset.proofs.Sums.{none, only, either, Agree, size_agree, size_either, size_none, size_only, sum_none, sum_only, label_in, label_first}
 use Rattle.calls.proofs.Geometry.{at_place, There, there, place_within, page_same, place_same, per_page_same}

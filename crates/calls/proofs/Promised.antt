@@ -9,7 +9,7 @@ use Rattle.coset.specs.Code.{Code, code}
 use Rattle.calls.specs.Records.{records, value}
 use Rattle.calls.specs.Ledger.{ceiling, raised}
 use Rattle.calls.specs.Calls.{State, Answer, Obeys}
-use Rattle.calls.specs.History.{Event, Linked, Every, total, count, renewed, changed, renewals, marks, accepts, last_accepted}
+use Rattle.calls.specs.History.{Event, Linked, Every, total, renewed, changed, renewals, marks, accepts, last_accepted}
 use Rattle.calls.specs.Promise.{Gets, Promise, WithinCeiling, RulesSuffice}
 use Rattle.calls.proofs.Geometry.{records_same}
 use Rattle.calls.proofs.Values.{shape_kept, full_exactly, fewest, lasts, value_after, wear_after, raised_none, raised_twice, Noted, noted_after, noted_small}

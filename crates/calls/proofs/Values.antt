@@ -12,7 +12,7 @@ use Rattle.calls.specs.Records.{per_page, records, page_of, first_of, Within, he
 use Rattle.calls.specs.Faults.{number}
 use Rattle.calls.specs.Ledger.{ceiling, raised, noted}
 use Rattle.calls.specs.Calls.{State, Answer, Sets, Renewed, renewed_value, rows, Obeys}
-use Rattle.calls.specs.History.{Event, accepted, is_renewal, renewed, changed, on_page, marks, accepts}
+use Rattle.calls.specs.History.{Event, is_renewal, renewed, changed, on_page, marks, accepts}
 use Rattle.calls.specs.Sample.{event}
 use Rattle.calls.specs.Promise.{FullExactly, Fewest, Lasts, WithinCeiling}
 use Rattle.coset.proofs.Sums.{Agree, sum_agree}

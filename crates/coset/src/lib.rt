@@ -1,5 +1,7 @@
 // Coset codes: the cells of a record and their labels, and the planner, which finds the fewest cells that take a record
 // to a value.
+#![tactic(auto)]
+
 pub mod cellset;
 pub mod labels;
 pub mod planner;

@@ -1,5 +1,7 @@
 // Plans some of the examples worked by hand: the cells that would take a record from its value to a target.
 // Cells count from 0; in these records cell i has the label i + 1.
+#![tactic(auto)]
+
 use coset::cellset::CellSet;
 use coset::labels::label_sum;
 use coset::planner::plan;
