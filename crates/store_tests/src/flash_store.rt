@@ -46,9 +46,7 @@ fn records_by_pages_and_width(rt: HostRuntime) -> Result<(), Fail> {
     for (pages, width, n, records) in cases {
         let mut image = fresh_flash(rt.alloc(), pages, width)?;
         let part = FlashPart::over(&mut image);
-        check_records(&rt, Integers::new(7), part, n, records).note(format_args!(
-            "{pages} pages of {width}, n = {n}"
-        ))?;
+        check_records(&rt, Integers::new(7), part, n, records)?;
     }
     Ok(())
 }

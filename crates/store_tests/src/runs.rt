@@ -94,8 +94,10 @@ pub fn check_records<G: Group + Drop, A: CellArray + Drop>(
     n: usize,
     records: usize,
 ) -> Result<(), Fail> {
+    let pages = array.pages();
+    let width = array.width();
     let store = Store::new(group, array, n);
-    assert_eq!(rt; store.records(), records);
+    assert_eq!(rt; store.records(), records, "{pages} pages of {width}, n = {n}");
     Ok(())
 }
 
