@@ -6,7 +6,7 @@ use Rattle.images.specs.declared.format.Format.TheVariants.{Flash}
 use Rattle.images.specs.declared.layout.Layout.{Layout}
 use Rattle.cells.specs.Rows.{Refused}
 use Rattle.cells.specs.Device.{Marked}
-use Rattle.images.specs.Image.{count_bytes, reads, width_at, page_at, width_of, count_of, cells_at, fits, part_cells, SetsBit}
+use Rattle.images.specs.Image.{count_bytes, width_at, page_at, width_of, count_of, cells_at, fits, part_cells, SetsBit}
 use Rattle.images.specs.Check.{image_rows, Stray, Accepted, ReadsAs}
 use Rattle.images.specs.Bytes.{BitSet, PageErased, Finds}
 use Rattle.images.proofs.Offsets.{shown, part_is}

@@ -6,7 +6,7 @@ use Rattle.images.specs.declared.format.Format.{Format}
 use Rattle.images.specs.declared.format.Format.TheVariants.{Fuse, Flash}
 use Rattle.cells.specs.Cells.{Cells, Alike}
 use Rattle.cells.specs.Rows.{Served}
-use Rattle.images.specs.Image.{count_bytes, limit_of, bit, set_bit, reads, width_at, pages_at, page_bytes, page_at, width_of, count_of, wear_of, cells_at, decoded}
+use Rattle.images.specs.Image.{count_bytes, limit_of, bit, set_bit, width_at, pages_at, page_bytes, page_at, width_of, count_of, wear_of, cells_at, decoded}
 use Rattle.images.specs.Check.{image_rows, Stray}
 use Rattle.images.specs.Written.{Writable, digit, bit_for, page_byte, written}
 use Rattle.images.proofs.Offsets.{within}

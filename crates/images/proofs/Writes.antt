@@ -7,7 +7,7 @@ use Rattle.images.specs.declared.format.Format.{Format}
 use Rattle.images.specs.declared.format.Format.TheVariants.{Fuse, Flash}
 use Rattle.images.specs.declared.layout.Layout.{Layout}
 use Rattle.cells.specs.Device.{Marked, Erased}
-use Rattle.images.specs.Image.{count_bytes, bit, reads, set_bit, SetsBit, page_bytes, page_at, size, count_of, wear_of, cells_at, fits, part_cells}
+use Rattle.images.specs.Image.{count_bytes, reads, set_bit, SetsBit, page_bytes, page_at, size, count_of, wear_of, cells_at, fits, part_cells}
 use Rattle.images.specs.Bytes.{BitSet, PageErased}
 use Rattle.images.proofs.Offsets.{same_block, same_place, byte_within, page_within, part_is}
 use Rattle.images.proofs.ByteBits.{four_digits}

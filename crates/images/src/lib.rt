@@ -1,5 +1,7 @@
 // Images of cell arrays: the two formats, their check, fresh images, and the parts that work on an image lent to
 // them, the fuse bank and the flash part.
+#![tactic(auto)]
+
 mod bytes;
 mod check;
 pub mod fault;

@@ -1,5 +1,7 @@
 // Lists the flash image on standard input: its pages, its width, and for each page its wear and how many of its cells
 // are set. Of a refused image it prints the number of the refusal.
+#![tactic(auto)]
+
 use images::fault::ImageError;
 use listing::listing::list_flash;
 use listing::report::Listing;
