@@ -5,6 +5,7 @@ use group::integers::Integers;
 use group::vectors::Vectors;
 use images::flash::FlashPart;
 use images::fresh::fresh_flash;
+use std::test::Fail;
 
 #[test]
 fn one_record_to_a_page(rt: HostRuntime) -> Result<(), Fail> {
@@ -139,7 +140,7 @@ fn over_refused_bytes_there_are_no_records(rt: HostRuntime) -> Result<(), Fail> 
             &mut FlashPart::over(&mut image),
             6,
         )?;
-        assert_eq!(rt; image, bytes);
+        assert_eq!(rt; image.as_slice(), bytes);
     }
     Ok(())
 }

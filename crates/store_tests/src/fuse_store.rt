@@ -84,7 +84,7 @@ fn over_refused_bytes_there_are_no_records(rt: HostRuntime) -> Result<(), Fail> 
             &[(get(0), no_record(0)), (put(0, 0), no_record(0))],
         )?;
         assert_eq!(rt; counted, ledger(0, 0, 0));
-        assert_eq!(rt; image, bytes);
+        assert_eq!(rt; image.as_slice(), bytes);
     }
     Ok(())
 }

@@ -8,6 +8,7 @@ use group::integers::Integers;
 use group::vectors::Vectors;
 use images::flash::FlashPart;
 use images::fresh::fresh_flash;
+use std::test::Fail;
 use store::store::Store;
 
 #[test]
@@ -33,7 +34,11 @@ fn a_history_with_every_kind_of_call(rt: HostRuntime) -> Result<(), Fail> {
     )?;
     assert_eq!(rt; counted, ledger(3, 1, 6));
     assert_eq!(rt; counted.rate(), Some(300));
-    assert_eq!(rt; image, [1, 0, 0, 0, 1, 0, 6, 0xeb], "cells 2 and 4 are set");
+    assert_eq!(rt;
+        image.as_slice(),
+        [1, 0, 0, 0, 1, 0, 6, 0xeb].as_slice(),
+        "cells 2 and 4 are set"
+    );
     Ok(())
 }
 
@@ -46,7 +51,10 @@ fn no_calls(rt: HostRuntime) -> Result<(), Fail> {
     assert_eq!(rt; called.rate(), None);
     let accessed = check_accesses(&rt, rt.alloc(), Vectors::new(2), &mut bench, 3, &[])?;
     assert_eq!(rt; accessed, ledger(0, 0, 0));
-    assert_eq!(rt; set_cells(rt.alloc(), &bench, 0)?, [4]);
+    assert_eq!(rt;
+        set_cells(rt.alloc(), &bench, 0)?.as_slice(),
+        [4].as_slice()
+    );
     Ok(())
 }
 
@@ -56,8 +64,8 @@ fn lists_and_calls_on_one_store(rt: HostRuntime) -> Result<(), Fail> {
     let mut store = Store::new(Vectors::new(2), Bench::new(), 3);
     assert_eq!(rt; store.records(), 42);
     assert_eq!(rt;
-        store.apply(rt.alloc(), &[put(41, 3), get(41)])?,
-        [Ok(1), Ok(3)]
+        store.apply(rt.alloc(), &[put(41, 3), get(41)])?.as_slice(),
+        [Ok(1), Ok(3)].as_slice()
     );
     assert_eq!(rt; store.ledger(), ledger(1, 0, 1));
     let accesses = [
@@ -68,8 +76,8 @@ fn lists_and_calls_on_one_store(rt: HostRuntime) -> Result<(), Fail> {
         Access::Get { record: 41 },
     ];
     assert_eq!(rt;
-        store.apply_accesses(rt.alloc(), &accesses)?,
-        [Ok(2), Ok(0)]
+        store.apply_accesses(rt.alloc(), &accesses)?.as_slice(),
+        [Ok(2), Ok(0)].as_slice()
     );
     assert_eq!(rt; store.ledger(), ledger(2, 0, 3));
     assert_eq!(rt; store.put(41, 1), full(41));

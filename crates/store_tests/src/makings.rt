@@ -8,6 +8,7 @@ use group::integers::Integers;
 use group::product::Product;
 use group::vectors::Vectors;
 use std::process::Abort;
+use std::test::Fail;
 use store::making::{MakingFault, check_making};
 
 // A modulus, n, and the outcome.

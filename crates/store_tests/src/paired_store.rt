@@ -9,6 +9,7 @@ use group::vectors::Vectors;
 use images::flash::FlashPart;
 use std::alloc::Global;
 use std::process::Abort;
+use std::test::Fail;
 
 // One call of a store of binary vectors of two bits, over the pairs of an array.
 fn check_call<A: Erasable + Drop>(

@@ -4,6 +4,7 @@ use crate::runs::*;
 use cells::bench::Bench;
 use group::integers::Integers;
 use group::vectors::Vectors;
+use std::test::Fail;
 
 // Ten records of six cells to a page, and four cells of no record at its end.
 #[test]

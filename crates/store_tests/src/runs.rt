@@ -82,7 +82,11 @@ pub fn check_page<A: Erasable>(
 ) -> Result<(), Fail> {
     let (worn, _) = array.wear(page)?;
     assert_eq!(rt; worn, wear, "wear of page {page}");
-    assert_eq!(rt; set_cells(heap, array, page)?, cells, "page {page}");
+    assert_eq!(rt;
+        set_cells(heap, array, page)?.as_slice(),
+        cells,
+        "page {page}"
+    );
     Ok(())
 }
 
@@ -97,7 +101,11 @@ pub fn check_records<G: Group + Drop, A: CellArray + Drop>(
     let pages = array.pages();
     let width = array.width();
     let store = Store::new(group, array, n);
-    assert_eq!(rt; store.records(), records, "{pages} pages of {width}, n = {n}");
+    assert_eq!(rt;
+        store.records(),
+        records,
+        "{pages} pages of {width}, n = {n}"
+    );
     Ok(())
 }
 

@@ -10,6 +10,7 @@ use group::product::Product;
 use group::vectors::Vectors;
 use std::alloc::Global;
 use std::process::Abort;
+use std::test::Fail;
 
 // The cells that are set, a call, its answer, and the sets of which one is set afterwards.
 type Example<'a> = (&'a [usize], Call, Answer, &'a [&'a [usize]]);
@@ -43,7 +44,11 @@ fn check_example<G: Group + Drop>(
     check_calls(rt, heap, group, &mut bench, n, &[(call, answer)])?;
     let cells = set_cells(heap, &bench, 0)?;
     assert!(rt; after.contains(&cells.as_slice()), "set: {cells:?}");
-    assert_eq!(rt; set_cells(heap, &bench, 1)?, [], "page 1");
+    assert_eq!(rt;
+        set_cells(heap, &bench, 1)?.as_slice(),
+        [].as_slice(),
+        "page 1"
+    );
     Ok(())
 }
 
