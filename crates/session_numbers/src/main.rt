@@ -1,5 +1,7 @@
 // Keeps session numbers modulo 7 in records of six cells, on the bench part and on a flash image.
 // It prints what each call of a list did, what the store counted, and the wear of each page.
+#![tactic(auto)]
+
 mod lists;
 
 use crate::lists::{UNTIL_WORN, WITH_A_NEIGHBOUR};

@@ -1,3 +1,5 @@
+#![tactic(auto)]
+
 // Examples of the store over each part: the answers to lists of calls, and the cells, bytes and counts afterwards.
 // The expected values are reckoned by hand from the rules.
 #[cfg(test)]
