@@ -6,15 +6,6 @@ use Rattle.commands.specs.Orders.{command_words, Commands}
 use Rattle.commands.proofs.Rewriting.{letter_is, one_number, two_numbers, line_stopped, line_passed}
 use Rattle.commands.proofs.order.Order.read.Goals as goal
 
-pub returns-in_err-record-in-Put : goal.returns-in_err-record-in-Put
-returns-in_err-record-in-Put c =
-    let read = c.in_ok-record.ensures in
-    let has = subst (Commands c.args.line.now) c.in-Put.is read.1 in
-    let p = err_from_is_err_and c.from_residual-in_err-record-in-Put.result c.from_residual-in_err-record-in-Put.ensures.1 in
-    rw (p.1, p.2)
-    (line_stopped c.args.line.now 80 (word_of c.in-Put.«record» ∷ (word_of c.in-Put.value ∷ [])) has (line_number c.in_err-record-in-Put.field-0.0.fault)
-    c.in_err-record-in-Put.field-0.0.column read.0 c.in_err-record-in-Put.ensures)
-
 pub returns-in_ok-record-in-Put : goal.returns-in_ok-record-in-Put
 returns-in_ok-record-in-Put c =
     let read = c.in_ok-record.ensures in
@@ -25,15 +16,6 @@ returns-in_ok-record-in-Put c =
           numbers.1.0 numbers.1.1,
     )
 
-pub returns-in_err-record-in-Renew : goal.returns-in_err-record-in-Renew
-returns-in_err-record-in-Renew c =
-    let read = c.in_ok-record.ensures in
-    let has = subst (Commands c.args.line.now) c.in-Renew.is read.1 in
-    let p = err_from_is_err_and c.from_residual-in_err-record-in-Renew.result c.from_residual-in_err-record-in-Renew.ensures.1 in
-    rw (p.1, p.2)
-    (line_stopped c.args.line.now 82 (word_of c.in-Renew.«record» ∷ (word_of c.in-Renew.value ∷ [])) has (line_number c.in_err-record-in-Renew.field-0.0.fault)
-    c.in_err-record-in-Renew.field-0.0.column read.0 c.in_err-record-in-Renew.ensures)
-
 pub returns-in_ok-record-in-Renew : goal.returns-in_ok-record-in-Renew
 returns-in_ok-record-in-Renew c =
     let read = c.in_ok-record.ensures in
@@ -43,15 +25,6 @@ returns-in_ok-record-in-Renew c =
       two_numbers command_words 82 c.args.line.now c.in-Renew.«record» c.in-Renew.value c.in_ok-record-in-Renew.«record» c.in_ok-record-in-Renew.value read.0 has
           numbers.1.0 numbers.1.1,
     )
-
-pub returns-in_err-record-in-Save : goal.returns-in_err-record-in-Save
-returns-in_err-record-in-Save c =
-    let read = c.in_ok-record.ensures in
-    let has = subst (Commands c.args.line.now) c.in-Save.is read.1 in
-    let p = err_from_is_err_and c.from_residual-in_err-record-in-Save.result c.from_residual-in_err-record-in-Save.ensures.1 in
-    rw (p.1, p.2)
-    (line_stopped c.args.line.now 83 (word_of c.in-Save.«record» ∷ (word_of c.in-Save.value ∷ [])) has (line_number c.in_err-record-in-Save.field-0.0.fault)
-    c.in_err-record-in-Save.field-0.0.column read.0 c.in_err-record-in-Save.ensures)
 
 pub returns-in_ok-record-in-Save : goal.returns-in_ok-record-in-Save
 returns-in_ok-record-in-Save c =
