@@ -1,9 +1,7 @@
 use Rattle.std.proofs.Common.{[], ◌∷◌, subst}
-use Rattle.std.proofs.lemmas.Result.{err_from_is_err_and}
-use Rattle.commands.specs.Faults.{line_number}
 use Rattle.commands.specs.Words.{word_of}
 use Rattle.commands.specs.Orders.{command_words, Commands}
-use Rattle.commands.proofs.Rewriting.{letter_is, one_number, two_numbers, line_stopped, line_passed}
+use Rattle.commands.proofs.Rewriting.{letter_is, one_number, two_numbers, line_passed}
 use Rattle.commands.proofs.order.Order.read.Goals as goal
 
 pub returns-in_ok-record-in-Put : goal.returns-in_ok-record-in-Put
