@@ -1,5 +1,5 @@
 -- What is written out passes the tables of a line. Assumes nothing.
-use Rattle.std.proofs.Common.{◌≡◌, ℕ, ◌+◌, ◌<◌, ◌≤◌, ◌⊎◌, List, [], ◌∷◌, ◌++◌, map, length, Some, None, decimal, Option, sym, refl, ap, ◌∙◌, subst, inl, inr, arith, length-append}
+use Rattle.std.proofs.Common.{◌≡◌, ℕ, ◌<◌, ◌≤◌, ◌⊎◌, List, [], ◌∷◌, ◌++◌, map, length, Some, None, decimal, Option, sym, refl, ap, ◌∙◌, subst, inl, inr, arith, length-append}
 use Rattle.std.proofs.lemmas.Fmt.{length-decimal-le}
 use Rattle.scan.specs.Pieces.{cut, Lacks}
 use Rattle.scan.proofs.Cutting.{lacks_more, lacks_append, cut_alone, cut_first}
@@ -12,7 +12,7 @@ use Rattle.commands.specs.declared.order.Order.TheVariants.{Put, Renew, Save, Ge
 use Rattle.commands.specs.Spots.{Passed}
 use Rattle.commands.specs.Words.{placed}
 use Rattle.commands.specs.Groups.{factor_spelt, group_spelt, SmallFactor, SmallGroup}
-use Rattle.commands.specs.Orders.{written, command_words, head_words, form_spots, number_spot, head_word_spots, line_spots, OrdersPass, HeadingsPass}
+use Rattle.commands.specs.Orders.{command_words, head_words, form_spots, number_spot, head_word_spots, line_spots, OrdersPass, HeadingsPass}
 use Rattle.commands.proofs.Tables.{passed_both}
 
 few_digits : (n : ℕ) → n < 1000000000 → length (decimal n) ≤ 9

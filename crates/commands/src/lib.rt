@@ -1,4 +1,6 @@
 // Nothing here makes a call; a line is read, or refused with the column of the refusal.
+#![tactic(auto)]
+
 pub mod command;
 pub mod factor;
 pub mod fault;

@@ -1,5 +1,7 @@
 // Finite abelian groups of at most 64 elements, numbered from 0: the integers modulo a number,
 // the binary vectors, and the products of groups.
+#![tactic(auto)]
+
 pub mod integers;
 pub mod interface;
 pub mod product;

@@ -1,75 +1,46 @@
 use Rattle.std.proofs.Common.{[], ◌∷◌, subst}
-use Rattle.std.proofs.lemmas.Result.{err_from_is_err_and}
-use Rattle.commands.specs.Faults.{line_number}
 use Rattle.commands.specs.Words.{word_of}
 use Rattle.commands.specs.Orders.{command_words, Commands}
-use Rattle.commands.proofs.Rewriting.{letter_is, one_number, two_numbers, line_stopped, line_passed}
+use Rattle.commands.proofs.Rewriting.{letter_is, one_number, two_numbers, line_passed}
 use Rattle.commands.proofs.order.Order.read.Goals as goal
 
-pub returns-in_err-record-2 : goal.returns-in_err-record-2
-returns-in_err-record-2 c =
+pub returns-in_ok-record-in-Put : goal.returns-in_ok-record-in-Put
+returns-in_ok-record-in-Put c =
     let read = c.in_ok-record.ensures in
     let has = subst (Commands c.args.line.now) c.in-Put.is read.1 in
-    let p = err_from_is_err_and c.from_residual-in_err-record-2.result c.from_residual-in_err-record-2.ensures.1 in
-    rw (p.1, p.2)
-    (line_stopped c.args.line.now 80 (word_of c.in-Put.«record» ∷ (word_of c.in-Put.value ∷ [])) has (line_number c.in_err-record-2.field-0.0.fault)
-    c.in_err-record-2.field-0.0.column read.0 c.in_err-record-2.ensures)
-
-pub returns-in_ok-record-2 : goal.returns-in_ok-record-2
-returns-in_ok-record-2 c =
-    let read = c.in_ok-record.ensures in
-    let has = subst (Commands c.args.line.now) c.in-Put.is read.1 in
-    let numbers = c.in_ok-record-2.ensures in (
+    let numbers = c.in_ok-record-in-Put.ensures in (
       line_passed c.args.line.now 80 (word_of c.in-Put.«record» ∷ (word_of c.in-Put.value ∷ [])) has read.0 numbers.0,
-      two_numbers command_words 80 c.args.line.now c.in-Put.«record» c.in-Put.value c.in_ok-record-2.«record» c.in_ok-record-2.value read.0 has
+      two_numbers command_words 80 c.args.line.now c.in-Put.«record» c.in-Put.value c.in_ok-record-in-Put.«record» c.in_ok-record-in-Put.value read.0 has
           numbers.1.0 numbers.1.1,
     )
 
-pub returns-in_err-record-3 : goal.returns-in_err-record-3
-returns-in_err-record-3 c =
+pub returns-in_ok-record-in-Renew : goal.returns-in_ok-record-in-Renew
+returns-in_ok-record-in-Renew c =
     let read = c.in_ok-record.ensures in
     let has = subst (Commands c.args.line.now) c.in-Renew.is read.1 in
-    let p = err_from_is_err_and c.from_residual-in_err-record-3.result c.from_residual-in_err-record-3.ensures.1 in
-    rw (p.1, p.2)
-    (line_stopped c.args.line.now 82 (word_of c.in-Renew.«record» ∷ (word_of c.in-Renew.value ∷ [])) has (line_number c.in_err-record-3.field-0.0.fault)
-    c.in_err-record-3.field-0.0.column read.0 c.in_err-record-3.ensures)
-
-pub returns-in_ok-record-3 : goal.returns-in_ok-record-3
-returns-in_ok-record-3 c =
-    let read = c.in_ok-record.ensures in
-    let has = subst (Commands c.args.line.now) c.in-Renew.is read.1 in
-    let numbers = c.in_ok-record-3.ensures in (
+    let numbers = c.in_ok-record-in-Renew.ensures in (
       line_passed c.args.line.now 82 (word_of c.in-Renew.«record» ∷ (word_of c.in-Renew.value ∷ [])) has read.0 numbers.0,
-      two_numbers command_words 82 c.args.line.now c.in-Renew.«record» c.in-Renew.value c.in_ok-record-3.«record» c.in_ok-record-3.value read.0 has
+      two_numbers command_words 82 c.args.line.now c.in-Renew.«record» c.in-Renew.value c.in_ok-record-in-Renew.«record» c.in_ok-record-in-Renew.value read.0 has
           numbers.1.0 numbers.1.1,
     )
 
-pub returns-in_err-record-4 : goal.returns-in_err-record-4
-returns-in_err-record-4 c =
+pub returns-in_ok-record-in-Save : goal.returns-in_ok-record-in-Save
+returns-in_ok-record-in-Save c =
     let read = c.in_ok-record.ensures in
     let has = subst (Commands c.args.line.now) c.in-Save.is read.1 in
-    let p = err_from_is_err_and c.from_residual-in_err-record-4.result c.from_residual-in_err-record-4.ensures.1 in
-    rw (p.1, p.2)
-    (line_stopped c.args.line.now 83 (word_of c.in-Save.«record» ∷ (word_of c.in-Save.value ∷ [])) has (line_number c.in_err-record-4.field-0.0.fault)
-    c.in_err-record-4.field-0.0.column read.0 c.in_err-record-4.ensures)
-
-pub returns-in_ok-record-4 : goal.returns-in_ok-record-4
-returns-in_ok-record-4 c =
-    let read = c.in_ok-record.ensures in
-    let has = subst (Commands c.args.line.now) c.in-Save.is read.1 in
-    let numbers = c.in_ok-record-4.ensures in (
+    let numbers = c.in_ok-record-in-Save.ensures in (
       line_passed c.args.line.now 83 (word_of c.in-Save.«record» ∷ (word_of c.in-Save.value ∷ [])) has read.0 numbers.0,
-      two_numbers command_words 83 c.args.line.now c.in-Save.«record» c.in-Save.value c.in_ok-record-4.«record» c.in_ok-record-4.value read.0 has
+      two_numbers command_words 83 c.args.line.now c.in-Save.«record» c.in-Save.value c.in_ok-record-in-Save.«record» c.in_ok-record-in-Save.value read.0 has
           numbers.1.0 numbers.1.1,
     )
 
-pub returns-in_ok-record-5 : goal.returns-in_ok-record-5
-returns-in_ok-record-5 c =
+pub returns-in_ok-record-in-Get : goal.returns-in_ok-record-in-Get
+returns-in_ok-record-in-Get c =
     let read = c.in_ok-record.ensures in
     let has = subst (Commands c.args.line.now) c.in-Get.is read.1 in
-    let number = c.in_ok-record-5.ensures in (
+    let number = c.in_ok-record-in-Get.ensures in (
       line_passed c.args.line.now 71 (word_of c.in-Get.«record» ∷ []) has read.0 number.0,
-      one_number command_words 71 c.args.line.now c.in-Get.«record» c.in_ok-record-5.«record» read.0 has number.1,
+      one_number command_words 71 c.args.line.now c.in-Get.«record» c.in_ok-record-in-Get.«record» read.0 has number.1,
     )
 
 pub returns-in-Ledger : goal.returns-in-Ledger

@@ -2,8 +2,8 @@ use Rattle.std.proofs.Common.{◌≡◌, ◌<◌, ◌≤◌, length, get_or, ari
 use Rattle.commands.proofs.Counting.{opens_empty, opens_spaced}
 use Rattle.commands.proofs.word.Words.after_command.Goals as goal
 
-pub returns-in_empty : goal.returns-in_empty
-returns-in_empty c =
+pub returns-in-empty : goal.returns-in-empty
+returns-in-empty c =
     let none : length c.args.rest.now ≤ 0 = omega (arith, ltb-true) in
     opens_empty c.args.rest.now (record { pieces = c.none.result }) none c.none.ensures.left c.none.ensures.bytes
 
