@@ -7,13 +7,7 @@ use std::test::Fail;
 
 // That these and no other cells of a page are set.
 pub fn check_set<A: CellArray>(rt: &impl Abort, array: &A, page: usize, cells: &[usize]) {
-    for cell in 0..array.width() {
-        assert_eq!(rt;
-            array.look(page, cell),
-            Ok(cells.contains(&cell)),
-            "page {page}, cell {cell}"
-        );
-    }
+    check_noted_set(rt, array, page, cells, "");
 }
 
 // The same, and that the page has this wear and limit.
@@ -24,9 +18,37 @@ pub fn check_page<A: Erasable>(
     cells: &[usize],
     wear: (u32, u32),
 ) -> Result<(), Fail> {
-    assert_eq!(rt; array.wear(page), Ok(wear));
-    check_set(rt, array, page, cells);
+    check_noted_page(rt, array, page, cells, wear, "");
     Ok(())
+}
+
+// Of these two, each failure ends with the note.
+fn check_noted_set<A: CellArray>(
+    rt: &impl Abort,
+    array: &A,
+    page: usize,
+    cells: &[usize],
+    note: &str,
+) {
+    for cell in 0..array.width() {
+        assert_eq!(rt;
+            array.look(page, cell),
+            Ok(cells.contains(&cell)),
+            "page {page}, cell {cell}{note}"
+        );
+    }
+}
+
+fn check_noted_page<A: Erasable>(
+    rt: &impl Abort,
+    array: &A,
+    page: usize,
+    cells: &[usize],
+    wear: (u32, u32),
+    note: &str,
+) {
+    assert_eq!(rt; array.wear(page), Ok(wear), "page {page}{note}");
+    check_noted_set(rt, array, page, cells, note);
 }
 
 // The counts, and that looks and marks of the first page and of the first cell past them are refused.
@@ -79,6 +101,14 @@ pub fn check_wears_out<A: Erasable>(
     }
     array.mark(0, cell)?;
     assert_eq!(rt; array.erase(0), Err(DeviceFault::Worn { page: 0 }));
-    check_page(rt, array, 0, &[cell], (3, 3)).note("a refused erase alters nothing")?;
-    check_page(rt, array, 1, &[cell], (0, 3)).note("the other page")
+    check_noted_page(
+        rt,
+        array,
+        0,
+        &[cell],
+        (3, 3),
+        ": a refused erase alters nothing",
+    );
+    check_noted_page(rt, array, 1, &[cell], (0, 3), ": the other page");
+    Ok(())
 }

@@ -1,5 +1,7 @@
 // Examples of cell arrays and images: each row of the tables of refusals at its bound, and what each call writes.
 // The expected bytes and counts are written out by hand.
+#![tactic(auto)]
+
 #[cfg(test)]
 mod arrays;
 #[cfg(test)]
