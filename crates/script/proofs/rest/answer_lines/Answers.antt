@@ -1,12 +1,21 @@
-use Rattle.std.proofs.Common.{vec_items, ◌∙◌, subst₂}
+use Rattle.std.proofs.Common.{◌∷◌, [], ◌++◌, refl, ap, vec_items, ◌∙◌, subst₂}
 use Rattle.coset.specs.Code.{code}
 use Rattle.calls.specs.Calls.{state_of}
 use Rattle.calls.specs.Records.{records}
 use Rattle.script.specs.declared.reply.Reply.TheVariants.{Made}
 use Rattle.script.specs.Lines.{line_of, lines_left}
 use Rattle.script.specs.Tells.{LineTells, Course}
-use Rattle.script.proofs.Progress.{progress_more}
+use Rattle.script.proofs.Progress.{progress_none, progress_more}
 use Rattle.script.proofs.rest.answer_lines.Goals as goal
+
+pub loop-line-init : goal.loop-line-init
+loop-line-init g c = (
+  c.requires,
+  refl,
+  refl,
+  progress_none _ _ _ _ _
+      (c.in_ok-push.ensures.items ∙ ap (λ l. l ++ (Made c.records.result ∷ [])) c.new-replies.ensures.items ∙ ap (λ k. Made k ∷ []) c.records.ensures),
+)
 
 pub loop-line-preserved : goal.loop-line-preserved
 loop-line-preserved g c =
