@@ -1,5 +1,7 @@
 // Runs the script on standard input, and prints what it answers.
 // It reads no more than 65,536 bytes, which are enough to tell that a script is too long.
+#![tactic(auto)]
+
 use script::script::run_script;
 use std::io::Read;
 
