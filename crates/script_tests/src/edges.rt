@@ -1,6 +1,7 @@
 // The table of edges, row by row.
 // A line that is no head, and the second head, stand at line 2.
 use crate::scripts::*;
+use std::test::Fail;
 
 const HEADS: &[Case] = &[
     (b"H", "X 52 T 1 2"),
@@ -27,6 +28,6 @@ const LINES: &[Case] = &[
 
 #[test]
 fn table_of_edges(rt: HostRuntime) -> Result<(), Fail> {
-    check_heads(&rt, rt.alloc(), HEADS)?;
-    check_lines(&rt, rt.alloc(), LINES)
+    check_heads(&rt, rt.alloc(), "heads", HEADS)?;
+    check_lines(&rt, rt.alloc(), "lines", LINES)
 }

@@ -3,6 +3,7 @@
 use crate::scripts::*;
 use std::alloc::Global;
 use std::process::Abort;
+use std::test::Fail;
 
 const MALFORMED: &[&[u8]] = &[
     b"",
@@ -76,12 +77,13 @@ const USABLE: &[&[u8]] = &[
 fn check_group_words(
     rt: &impl Abort,
     heap: Global,
+    table: &str,
     words: &[&[u8]],
     expected: &str,
 ) -> Result<(), Fail> {
     for (i, word) in words.iter().enumerate() {
         let line = joined(heap, b"H ", word, b" 6 1 12")?;
-        check_head(rt, heap, &line, expected).note(format_args!("word {i}"))?;
+        check_head(rt, heap, table, i, &line, expected)?;
     }
     Ok(())
 }
@@ -122,10 +124,10 @@ const GROUPS: &[Case] = &[
 #[test]
 fn group_words(rt: HostRuntime) -> Result<(), Fail> {
     let heap = rt.alloc();
-    check_group_words(&rt, heap, MALFORMED, "X 51 T 1 3").note("malformed")?;
-    check_group_words(&rt, heap, UNUSABLE, "X 30 M 1 3").note("unusable")?;
-    check_group_words(&rt, heap, USABLE, "M 2\nV 0").note("usable")?;
-    check_scripts(&rt, heap, GROUPS)
+    check_group_words(&rt, heap, "malformed", MALFORMED, "X 51 T 1 3")?;
+    check_group_words(&rt, heap, "unusable", UNUSABLE, "X 30 M 1 3")?;
+    check_group_words(&rt, heap, "usable", USABLE, "M 2\nV 0")?;
+    check_scripts(&rt, heap, "groups", GROUPS)
 }
 
 const WORDS: &[Case] = &[
@@ -188,8 +190,8 @@ const PLACES: &[Case] = &[
 
 #[test]
 fn words_and_places_of_heads(rt: HostRuntime) -> Result<(), Fail> {
-    check_heads(&rt, rt.alloc(), WORDS)?;
-    check_scripts(&rt, rt.alloc(), PLACES)
+    check_heads(&rt, rt.alloc(), "words", WORDS)?;
+    check_scripts(&rt, rt.alloc(), "places", PLACES)
 }
 
 const MAKINGS: &[Case] = &[
@@ -240,5 +242,5 @@ const MAKINGS: &[Case] = &[
 
 #[test]
 fn refused_makings(rt: HostRuntime) -> Result<(), Fail> {
-    check_heads(&rt, rt.alloc(), MAKINGS)
+    check_heads(&rt, rt.alloc(), "makings", MAKINGS)
 }

@@ -2,6 +2,7 @@
 // Each is some bytes, filled up with one byte to a length.
 use crate::scripts::*;
 use std::alloc::{AllocError, Global};
+use std::test::Fail;
 
 // The first bytes, the byte after them, the length of all, and what is printed.
 type Filled<'a> = (&'a [u8], u8, usize, &'a str);
@@ -58,11 +59,11 @@ fn longest_lines(rt: HostRuntime) -> Result<(), Fail> {
     let heap = rt.alloc();
     for (i, (start, fill, length, expected)) in HEADS.iter().enumerate() {
         let line = filled(heap, start, *fill, *length)?;
-        check_head(&rt, heap, &line, expected).note(format_args!("head {i}"))?;
+        check_head(&rt, heap, "longest", i, &line, expected)?;
     }
     for (i, (start, fill, length, expected)) in LINES.iter().enumerate() {
         let line = filled(heap, start, *fill, *length)?;
-        check_line(&rt, heap, &line, expected).note(format_args!("line {i}"))?;
+        check_line(&rt, heap, "longest", i, &line, expected)?;
     }
     Ok(())
 }
@@ -72,7 +73,8 @@ fn longest_scripts(rt: HostRuntime) -> Result<(), Fail> {
     let heap = rt.alloc();
     for (i, (start, fill, length, expected)) in SCRIPTS.iter().enumerate() {
         let script = filled(heap, start, *fill, *length)?;
-        check_scripts(&rt, heap, &[(&script, expected)]).note(format_args!("filled {i}"))?;
+        let table = format!(in heap; "filled {i}")?;
+        check_scripts(&rt, heap, &table, &[(&script, expected)])?;
     }
     // 65,521 lines stand before the last one
     let lines = filled(heap, b"H Z7 6 1 12\n", b'\n', 65_532)?;
@@ -81,6 +83,7 @@ fn longest_scripts(rt: HostRuntime) -> Result<(), Fail> {
     check_scripts(
         &rt,
         heap,
+        "many lines",
         &[(&last, "M 2\nX 40 S 65522 3\n"), (&ended, "X 54 T 1 1\n")],
     )
 }

@@ -1,3 +1,5 @@
+#![tactic(auto)]
+
 // Examples of scripts: what each prints, line by line.
 // The expected text is worked out by hand from the rules of the script language.
 #[cfg(test)]

@@ -1,6 +1,7 @@
 // Lines after the head: their first bytes, their words, and the calls on a store of two empty records.
 // None of them marks a cell.
 use crate::scripts::*;
+use std::test::Fail;
 
 const COMMANDS: &[&[u8]] = &[
     b"g 0",
@@ -102,10 +103,10 @@ const MALFORMED: &[Case] = &[
 fn commands_and_words(rt: HostRuntime) -> Result<(), Fail> {
     let heap = rt.alloc();
     for (i, line) in COMMANDS.iter().enumerate() {
-        check_line(&rt, heap, line, "X 50 T 2 1").note(format_args!("command {i}"))?;
+        check_line(&rt, heap, "commands", i, line, "X 50 T 2 1")?;
     }
-    check_lines(&rt, heap, COUNTS).note("counts")?;
-    check_lines(&rt, heap, MALFORMED).note("malformed")
+    check_lines(&rt, heap, "counts", COUNTS)?;
+    check_lines(&rt, heap, "malformed", MALFORMED)
 }
 
 const CALLS: &[Case] = &[
@@ -135,5 +136,5 @@ const CALLS: &[Case] = &[
 
 #[test]
 fn calls_that_mark_nothing(rt: HostRuntime) -> Result<(), Fail> {
-    check_lines(&rt, rt.alloc(), CALLS)
+    check_lines(&rt, rt.alloc(), "calls", CALLS)
 }

@@ -1,6 +1,7 @@
 // Whole scripts: what is printed of calls that follow each other.
 // Every put and renewal of them has one plan, so all that they print is fixed.
 use crate::scripts::*;
+use std::test::Fail;
 
 // The sample script, without the end of its last line.
 const SAMPLE: &[u8] = b"H X2 3 1 6\nP 0 1\nP 0 0\nP 1 2\nP 0 3\nR 1 3\nS 0 3\nG 1\nG 2\nL";
@@ -65,8 +66,8 @@ fn whole_scripts(rt: HostRuntime) -> Result<(), Fail> {
     check_scripts(
         &rt,
         heap,
+        "sample",
         &[(SAMPLE, SAMPLE_PRINTS), (&ended, SAMPLE_PRINTS)],
-    )
-    .note("sample")?;
-    check_scripts(&rt, heap, COURSES)
+    )?;
+    check_scripts(&rt, heap, "courses", COURSES)
 }
