@@ -16,7 +16,7 @@ use std::alloc::{AllocError, Global};
 
 impl<G: Group, A: Erasable> Store<G, A> {
     // One call of a list.
-    fn serve(&mut self, call: Call) -> Result<u32, StoreFault>
+    pub(crate) fn serve(&mut self, call: Call) -> Result<u32, StoreFault>
         ensures held { A.CellArray.held self.new.array ≡ A.CellArray.held self.old.array }
         ensures intact { A.CellArray.intact self.old.array → A.CellArray.intact self.new.array }
         ensures group { self.new.group ≡ self.old.group }
