@@ -1,6 +1,6 @@
 // Fresh flash images, and the listing of a flash image.
 // Lengths and counts are reckoned by hand from the layout of an image.
-use crate::images::FLASH;
+use crate::sample_images::FLASH;
 use images::fault::{ImageError, ImageFault};
 use images::format::Format;
 use images::fresh::fresh_flash;

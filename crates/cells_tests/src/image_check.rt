@@ -1,6 +1,6 @@
 // The check of an image: each row at its bound, and which of two rows comes first.
 // Small images are written out whole; those at the bounds of the counts are made from them.
-use crate::images::{FLASH, FUSE, unset_image};
+use crate::sample_images::{FLASH, FUSE, unset_image};
 use images::fault::ImageFault;
 use images::format::Format;
 use std::test::Fail;

@@ -1,7 +1,7 @@
 // The flash part and the fuse bank: what they read in an image, and which bytes they write.
 // An image is compared whole after each call that may write.
 use crate::arrays::{check_counts, check_erasable_counts, check_set};
-use crate::images::{FLASH, FUSE};
+use crate::sample_images::{FLASH, FUSE};
 use cells::array::{CellArray, Erasable};
 use cells::fault::DeviceFault;
 use images::flash::FlashPart;

@@ -15,6 +15,6 @@ mod image_check;
 #[cfg(test)]
 mod image_parts;
 #[cfg(test)]
-mod images;
-#[cfg(test)]
 mod paired_part;
+#[cfg(test)]
+mod sample_images;

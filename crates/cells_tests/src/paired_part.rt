@@ -1,7 +1,7 @@
 // The paired part, over each of the other parts.
 // What it writes is seen in the array or the image below.
 use crate::arrays::{check_erasable_counts, check_page, check_set, check_wears_out};
-use crate::images::FUSE;
+use crate::sample_images::FUSE;
 use cells::array::{CellArray, Erasable};
 use cells::bench::Bench;
 use cells::fault::DeviceFault;

@@ -1,6 +1,6 @@
 -- Cutting a list at a separator and joining its pieces again. Assumes nothing.
 use Rattle.std.proofs.Common.{◌≡◌, ℕ, zero, suc, ◌+◌, ◌<◌, ◌≤◌, Bool, true, false, cond, eqb, List, [], ◌∷◌, ◌++◌, length, sym, refl, ap, ◌∙◌, arith}
-use Rattle.std.specs.List.{AllByRecursion as All}
+use Rattle.std.specs.List.{AllByRecursion}
 use Rattle.std.proofs.lemmas.Bool.{eq-eqb, ne_eqb, eqb-true, eqb-false}
 use Rattle.scan.specs.Pieces.{in_front, cut, joined, Lacks, Cuts, CutLaw}
 
@@ -24,7 +24,7 @@ module _ (b : ℕ) where
       lacks_more x (xs ++ ys) (lacks_first x xs none) (lacks_append xs ys (lacks_rest x xs none) more)
 
   -- pieces joined by another byte
-  pub lacks_joined : (other : ℕ) → (other ≡ b → ⊥) → (ps : List (List ℕ)) → All (Lacks b) ps → Lacks b (joined other ps)
+  pub lacks_joined : (other : ℕ) → (other ≡ b → ⊥) → (ps : List (List ℕ)) → AllByRecursion (Lacks b) ps → Lacks b (joined other ps)
   unfolding joined
   lacks_joined other ne [] clean = lacks_none
   lacks_joined other ne (p ∷ []) clean = clean.0
@@ -47,7 +47,7 @@ module _ (b : ℕ) where
       rw (ne_eqb x b (lacks_first x p lacks)) (ap (in_front x) (cut_first p rest (lacks_rest x p lacks)))
 
   -- pieces without the separator are cut apart again
-  pub cut_joined : (p : List ℕ) (ps : List (List ℕ)) → All (Lacks b) (p ∷ ps) → cut b (joined b (p ∷ ps)) ≡ p ∷ ps
+  pub cut_joined : (p : List ℕ) (ps : List (List ℕ)) → AllByRecursion (Lacks b) (p ∷ ps) → cut b (joined b (p ∷ ps)) ≡ p ∷ ps
   unfolding joined
   cut_joined p [] clean = cut_alone p clean.0
   cut_joined p (q ∷ ps) clean =
@@ -75,12 +75,12 @@ module _ (b : ℕ) where
       go false (p ∷ ps) few = omega arith
 
   -- no piece has the separator
-  pub cut_clean : (xs : List ℕ) → All (Lacks b) (cut b xs)
+  pub cut_clean : (xs : List ℕ) → AllByRecursion (Lacks b) (cut b xs)
   unfolding cut
   cut_clean [] = (lacks_none, tt)
   cut_clean (x ∷ xs) = go (eqb x b) refl (cut b xs) (cut_clean xs)
     where
-      go : (same : Bool) → eqb x b ≡ same → (ps : List (List ℕ)) → All (Lacks b) ps → All (Lacks b) (cond same ([] ∷ ps) (in_front x ps))
+      go : (same : Bool) → eqb x b ≡ same → (ps : List (List ℕ)) → AllByRecursion (Lacks b) ps → AllByRecursion (Lacks b) (cond same ([] ∷ ps) (in_front x ps))
       go true e ps clean = (lacks_none, clean)
       go false e [] clean = (lacks_more x [] (eqb-false x b e) lacks_none, tt)
       go false e (p ∷ ps) clean = (lacks_more x p (eqb-false x b e) clean.0, clean.1)

@@ -1,6 +1,6 @@
 -- Bytes cut at a separator into pieces, and the pieces taken one by one. Assumes nothing.
 use Rattle.std.specs.Prelude.{◌≡◌, ℕ, ◌+◌, ◌<◌, ◌≤◌, cond, List, [], ◌∷◌, ◌++◌, length, drop, Some, None, Option, ◌==◌, ◌≢◌, nat_le, slice_index}
-use Rattle.std.specs.List.{AllByRecursion as All}
+use Rattle.std.specs.List.{AllByRecursion}
 use Rattle.scan.specs.declared.pieces.Piece.{Piece}
 use Rattle.scan.specs.declared.pieces.Pieces.{Pieces}
 
@@ -27,7 +27,7 @@ Lacks b xs = (k : ℕ) → k < length xs → slice_index xs k ≢ b
 -- ps are the pieces of xs: there is at least one, none has the separator, and joined they are xs.
 pub record Cuts (b : ℕ) (xs : List ℕ) (ps : List (List ℕ)) : Type 0 where
   pub some : 0 < length ps
-  pub clean : All (Lacks b) ps
+  pub clean : AllByRecursion (Lacks b) ps
   pub joins : joined b ps ≡ xs
 
 -- The law: cut gives the pieces, and there are no others.
