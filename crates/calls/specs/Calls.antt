@@ -78,6 +78,7 @@ pub record State : Type 0 where
   pub cells : Cells
   pub ledger : Ledger
 
+-- the state of a store, by its cells and its ledger
 abbrev pub state_of : Cells → Ledger → State
 state_of m l = record { cells = m; ledger = l }
 

@@ -92,7 +92,7 @@ impl Format {
     // Whether an unused bit of any page reads as set.
     fn any_stray(self, image: &[u8], layout: Layout) -> bool
         requires width_nonzero { 0 < layout.width }
-        requires width_in_bounds { size self layout.pages layout.width ≤ length image.now }
+        requires image_fits { size self layout.pages layout.width ≤ length image.now }
         ensures { Decides result ((p : ℕ) × (p < layout.pages) × Stray self layout.pages layout.width image.now p) }
     {
         for page in 0..layout.pages {
@@ -107,7 +107,7 @@ impl Format {
     fn stray(self, image: &[u8], layout: Layout, page: usize) -> bool
         requires width_nonzero { 0 < layout.width }
         requires page_lt_pages { page < layout.pages }
-        requires width_in_bounds { size self layout.pages layout.width ≤ length image.now }
+        requires image_fits { size self layout.pages layout.width ≤ length image.now }
         ensures { Decides result (Stray self layout.pages layout.width image.now page) }
     {
         let last = layout.page_bytes() - 1;

@@ -3,7 +3,7 @@ use Rattle.std.proofs.Common.{◌≡◌, ℕ, ◌<◌, ◌≤◌, ◌⊎◌, Lis
 use Rattle.cells.specs.Cells.{Cells as Meaning, Alike}
 use Rattle.cells.specs.Rows.{Refused, Served}
 use Rattle.images.specs.declared.fault.ImageError.{ImageError}
-use Rattle.images.specs.declared.fault.ImageError.TheVariants.{Image as ImageRefused, NoMemory as NoMemory}
+use Rattle.images.specs.declared.fault.ImageError.TheVariants.{Image as ImageRefused, NoMemory as NoRoom}
 use Rattle.images.specs.declared.fault.ImageFault.{ImageFault}
 use Rattle.images.specs.declared.fault.ImageFault.TheVariants.{Short, Pages, Width, Trailing, Stray, Wear}
 use Rattle.images.specs.declared.format.Format.TheVariants.{Flash}
@@ -142,7 +142,7 @@ module _ (p : HeadPlace) where
     where
       go : (f : ImageError) → MakesImage bytes p.heading.pages.value p.heading.width.value (Err f) → HeadingStops p.line p.heading (image_stop p.line p.heading f)
       go (ImageRefused d) refused = (counts_stopped p.heading d refused, refl)
-      go NoMemory refused = tt
+      go NoRoom refused = tt
 
   pub image_made :
       {B : Type 0} (bytes : B → List ℕ) (r : Result B ImageError) (v : B) → located p r ≡ Ok v → MakesImage bytes p.heading.pages.value p.heading.width.value r →

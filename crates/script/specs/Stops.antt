@@ -1,7 +1,7 @@
 -- Where a script ends at its head. Assumes nothing.
 use Rattle.std.specs.Prelude.{ℕ}
 use Rattle.images.specs.declared.fault.ImageError.{ImageError}
-use Rattle.images.specs.declared.fault.ImageError.TheVariants.{Image as ImageRefused, NoMemory as NoMemory}
+use Rattle.images.specs.declared.fault.ImageError.TheVariants.{Image as ImageRefused, NoMemory as NoRoom}
 use Rattle.images.specs.declared.fault.ImageFault.{ImageFault}
 use Rattle.images.specs.declared.fault.ImageFault.TheVariants.{Short, Pages, Width, Trailing, Stray, Wear}
 use Rattle.store.specs.declared.making.MakingFault.{MakingFault}
@@ -28,7 +28,7 @@ making_column h Narrow = h.n.column
 
 abbrev pub image_stop : ℕ → Heading → ImageError → Stop
 image_stop k h (ImageRefused f) = Fault (record { cause = Image f; line = k; column = image_column h f })
-image_stop k h NoMemory = NoMemory
+image_stop k h NoRoom = NoMemory
 
 abbrev pub making_stop : ℕ → Heading → MakingFault → Stop
 making_stop k h f = Fault (record { cause = Making f; line = k; column = making_column h f })
