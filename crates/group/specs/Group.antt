@@ -1,5 +1,5 @@
 -- A finite abelian group with numbered elements, its laws, and the figure that its doublings give. Assumes nothing.
-use Rattle.std.specs.Prelude.{◌≡◌, ℕ, zero, suc, ◌+◌, ◌-◌, ◌/◌, ◌<◌, ◌≤◌, max, cond, ◌==◌}
+use Rattle.std.specs.Prelude.{◌≡◌, ℕ, zero, suc, ◌+◌, ◌-◌, ◌/◌, ◌<◌, ◌≤◌, max, Bool, cond, not, ◌&&◌, ◌==◌, nat_lt}
 
 -- The elements are the numbers below the order, and 0 is the neutral one.
 pub record Group : Type 0 where
@@ -17,6 +17,13 @@ Usable g = g.order ≡ unusable → ⊥
 -- a is the number of an element
 abbrev pub In : Group → ℕ → Type 0
 In g a = a < g.order
+
+-- The same as tests: whether g is usable, and whether a is one of its elements. An unusable group has none.
+abbrev pub is_usable : Group → Bool
+is_usable g = not (g.order == unusable)
+
+abbrev pub has : Group → ℕ → Bool
+has g a = is_usable g && nat_lt a g.order
 
 -- The laws of an abelian group, and what is answered outside of it: 0.
 pub record Lawful (g : Group) : Type 0 where

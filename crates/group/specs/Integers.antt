@@ -1,14 +1,10 @@
 -- The integers modulo v. Assumes nothing.
 use Rattle.std.specs.Prelude.{◌≡◌, ℕ, ◌+◌, ◌-◌, ◌%◌, ◌<◌, ◌≤◌, Bool, ◌&&◌, nat_le}
 use Rattle.group.specs.Group.{Group, unusable}
-use Rattle.group.specs.Numbered.{element, numbered}
+use Rattle.group.specs.Numbered.{numbered}
 
 abbrev pub integers_usable : ℕ → Bool
 integers_usable v = nat_le 2 v && nat_le v 64
-
--- whether a is an element
-abbrev pub integers_element : ℕ → ℕ → Bool
-integers_element v a = element (integers_usable v) v a
 
 abbrev pub integers : ℕ → Group
 integers v = numbered (integers_usable v) v (λ a b. (a + b) % v) (λ a. (v - a) % v)

@@ -1,9 +1,9 @@
 -- What `numbered` gives at its elements, and that it is lawful. Assumes nothing.
-use Rattle.std.specs.Prelude.{◌≡◌, ℕ, ◌<◌, ◌≤◌, Bool, true, false, ◌⊎◌, ◌≢◌, refl}
+use Rattle.std.specs.Prelude.{◌≡◌, ℕ, ◌<◌, ◌≤◌, Bool, true, false, ◌&&◌, ◌⊎◌, ◌≢◌, refl}
 use Rattle.std.proofs.Common.{inl, inr, arith, lit≤}
 use Rattle.std.proofs.lemmas.Bool.{cases_eq, cases_lt}
 use Rattle.std.proofs.lemmas.Bool.Decides.{nat_tests}
-use Rattle.group.specs.Group.{Group, Lawful, In, unusable}
+use Rattle.group.specs.Group.{Group, Lawful, In, has, unusable}
 use Rattle.group.specs.Numbered.{numbered}
 
 -- The numbers below n are an abelian group under sum, and opposite gives the inverses.
@@ -89,3 +89,21 @@ module _ {g : Group} (laws : Lawful g) where
 
   pub opposite_small : (a x : ℕ) → x ≡ g.opposite a → x < unusable
   opposite_small a x e = omega (arith, laws.most, opposite_in a)
+
+  -- Away from the elements both are 0.
+  pub sum_outside : (a b : ℕ) → (has g a && has g b) ≡ false → g.sum a b ≡ 0
+  sum_outside a b none = outside (cases_eq g.order unusable) (cases_lt a g.order) (cases_lt b g.order)
+    where
+      outside : (g.order ≡ unusable) ⊎ (g.order ≢ unusable) → (a < g.order) ⊎ (g.order ≤ a) → (b < g.order) ⊎ (g.order ≤ b) → g.sum a b ≡ 0
+      outside (inl e) _ _ = laws.never_sum e a b
+      outside (inr u) (inr i) _ = laws.outside_left a b i
+      outside (inr u) (inl i) (inr j) = laws.outside_right a b j
+      outside (inr u) (inl i) (inl j) = absurd (grind (arith, nat_tests))
+
+  pub opposite_outside : (a : ℕ) → has g a ≡ false → g.opposite a ≡ 0
+  opposite_outside a none = outside (cases_eq g.order unusable) (cases_lt a g.order)
+    where
+      outside : (g.order ≡ unusable) ⊎ (g.order ≢ unusable) → (a < g.order) ⊎ (g.order ≤ a) → g.opposite a ≡ 0
+      outside (inl e) _ = laws.never_opposite e a
+      outside (inr u) (inr i) = laws.outside_opposite a i
+      outside (inr u) (inl i) = absurd (grind (arith, nat_tests))

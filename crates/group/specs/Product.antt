@@ -1,7 +1,7 @@
 -- The direct product of two groups. Assumes nothing.
 use Rattle.std.specs.Prelude.{◌≡◌, ℕ, ◌+◌, ◌*◌, ◌/◌, ◌%◌, ◌<◌, ◌≤◌, Bool, nat_le}
 use Rattle.group.specs.Group.{Group, Usable, In, unusable}
-use Rattle.group.specs.Numbered.{element, numbered}
+use Rattle.group.specs.Numbered.{numbered}
 
 -- the number of pairs
 abbrev pub product_size : Group → Group → ℕ
@@ -9,10 +9,6 @@ product_size g h = g.order * h.order
 
 abbrev pub product_usable : Group → Group → Bool
 product_usable g h = nat_le (product_size g h) 64
-
--- whether a is an element
-abbrev pub product_element : Group → Group → ℕ → Bool
-product_element g h a = element (product_usable g h) (product_size g h) a
 
 abbrev pub product_sum : Group → Group → ℕ → ℕ → ℕ
 product_sum g h x y = let r = h.order in g.sum (x / r) (y / r) * r + h.sum (x % r) (y % r)

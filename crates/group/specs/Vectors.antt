@@ -1,14 +1,10 @@
 -- The binary vectors of m bits. Assumes nothing.
 use Rattle.std.specs.Prelude.{◌≡◌, ℕ, ◌^◌, ◌<◌, ◌≤◌, Bool, ◌&&◌, bit_xor, nat_le}
 use Rattle.group.specs.Group.{Group, unusable}
-use Rattle.group.specs.Numbered.{element, numbered}
+use Rattle.group.specs.Numbered.{numbered}
 
 abbrev pub vectors_usable : ℕ → Bool
 vectors_usable m = nat_le 1 m && nat_le m 6
-
--- whether a is an element
-abbrev pub vectors_element : ℕ → ℕ → Bool
-vectors_element m a = element (vectors_usable m) (2 ^ m) a
 
 abbrev pub vectors : ℕ → Group
 vectors m = numbered (vectors_usable m) (2 ^ m) bit_xor (λ a. a)

@@ -1,7 +1,7 @@
 // The integers modulo a number from 2 to 64, which is the group's order.
 // Any other modulus makes an unusable group.
 ghost use Rattle.std.specs.Prelude.{◌≡◌};
-ghost use Rattle.group.specs.Integers.{integers, integers_element, integers_usable, Modular};
+ghost use Rattle.group.specs.Integers.{integers, Modular};
 ghost use Rattle.group.specs.Modulo.{integers_lawful};
 
 use crate::interface::{Group, MAX_ORDER, UNUSABLE};
@@ -19,19 +19,6 @@ impl Integers {
     {
         Integers { modulus }
     }
-
-    fn is_usable(&self) -> bool
-        ensures { result ≡ integers_usable self.now.modulus }
-    {
-        2 <= self.modulus && self.modulus <= MAX_ORDER
-    }
-
-    // whether a is an element
-    fn has(&self, a: u32) -> bool
-        ensures { result ≡ integers_element self.now.modulus a }
-    {
-        self.is_usable() && a < self.order()
-    }
 }
 
 impl Group for Integers {
@@ -40,7 +27,7 @@ impl Group for Integers {
     ghost lawful = { λ g. integers_lawful g.modulus };
 
     fn order(&self) -> u32 {
-        if self.is_usable() {
+        if 2 <= self.modulus && self.modulus <= MAX_ORDER {
             self.modulus
         } else {
             UNUSABLE

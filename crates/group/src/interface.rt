@@ -1,7 +1,7 @@
 // The trait of the finite abelian groups whose elements are numbered from 0.
 // A group may be unusable: its order is then 65, and its sums and opposites are 0.
 ghost use Rattle.std.specs.Prelude.{◌≡◌};
-ghost use Rattle.group.specs.Group.{Group as GroupMeaning, Lawful};
+ghost use Rattle.group.specs.Group.{Group as GroupMeaning, Lawful, has, is_usable};
 
 // the largest order of a usable group
 pub const MAX_ORDER: u32 = 64;
@@ -24,6 +24,19 @@ pub trait Group {
     // the element that added to a gives 0; 0 where a is no element
     fn opposite(&self, a: u32) -> u32
         ensures { result ≡ (meaning self.now).opposite a };
+
+    fn is_usable(&self) -> bool
+        ensures { result ≡ is_usable (meaning self.now) }
+    {
+        self.order() != UNUSABLE
+    }
+
+    // whether a is an element; an unusable group has none
+    fn has(&self, a: u32) -> bool
+        ensures { result ≡ has (meaning self.now) a }
+    {
+        self.is_usable() && a < self.order()
+    }
 
     ghost lawful: { (g : Self) → Lawful (meaning g) };
 }

@@ -1,7 +1,7 @@
 // The direct product of two groups: it adds part by part.
 // The pair of a and b has the number a * r + b, where r is the order of the second group.
 ghost use Rattle.std.specs.Prelude.{◌≡◌};
-ghost use Rattle.group.specs.Product.{product, product_element, product_size, product_usable, DirectProduct};
+ghost use Rattle.group.specs.Product.{product, product_size, DirectProduct};
 ghost use Rattle.group.specs.Pairs.{product_lawful};
 
 use crate::interface::{Group, MAX_ORDER, UNUSABLE};
@@ -27,20 +27,6 @@ impl<A: Group, B: Group> Product<A, B> {
     {
         self.left.order() * self.right.order()
     }
-
-    // An unusable part has order 65 and the other at least 2, so that the size is above 64 too.
-    fn is_usable(&self) -> bool
-        ensures { result ≡ product_usable (A.Group.meaning self.now.left) (B.Group.meaning self.now.right) }
-    {
-        self.size() <= MAX_ORDER
-    }
-
-    // whether a is an element
-    fn has(&self, a: u32) -> bool
-        ensures { result ≡ product_element (A.Group.meaning self.now.left) (B.Group.meaning self.now.right) a }
-    {
-        self.is_usable() && a < self.order()
-    }
 }
 
 impl<A: Group, B: Group> Group for Product<A, B> {
@@ -49,11 +35,9 @@ impl<A: Group, B: Group> Group for Product<A, B> {
     ghost lawful = { λ p. product_lawful (A.Group.lawful p.left) (B.Group.lawful p.right) };
 
     fn order(&self) -> u32 {
-        if self.is_usable() {
-            self.size()
-        } else {
-            UNUSABLE
-        }
+        // An unusable part has order 65 and the other at least 2, so that the size is above 64 too.
+        let size = self.size();
+        if size <= MAX_ORDER { size } else { UNUSABLE }
     }
 
     fn sum(&self, a: u32, b: u32) -> u32 {

@@ -1,7 +1,7 @@
 // The binary vectors of 1 to 6 bits, whose sum is exclusive or.
 // Any other number of bits makes an unusable group.
 ghost use Rattle.std.specs.Prelude.{◌≡◌};
-ghost use Rattle.group.specs.Vectors.{vectors, vectors_element, vectors_usable, Binary};
+ghost use Rattle.group.specs.Vectors.{vectors, Binary};
 ghost use Rattle.group.specs.Xor.{vectors_lawful};
 
 use crate::interface::{Group, UNUSABLE};
@@ -21,19 +21,6 @@ impl Vectors {
     {
         Vectors { bits }
     }
-
-    fn is_usable(&self) -> bool
-        ensures { result ≡ vectors_usable self.now.bits }
-    {
-        1 <= self.bits && self.bits <= MAX_BITS
-    }
-
-    // whether a is an element
-    fn has(&self, a: u32) -> bool
-        ensures { result ≡ vectors_element self.now.bits a }
-    {
-        self.is_usable() && a < self.order()
-    }
 }
 
 impl Group for Vectors {
@@ -42,7 +29,7 @@ impl Group for Vectors {
     ghost lawful = { λ g. vectors_lawful g.bits };
 
     fn order(&self) -> u32 {
-        if self.is_usable() {
+        if 1 <= self.bits && self.bits <= MAX_BITS {
             1 << self.bits
         } else {
             UNUSABLE
