@@ -1,7 +1,8 @@
 -- Sets with no cell from some cell on, and codes with more cells than a set can use. Assumes nothing.
 use Rattle.std.proofs.Common.{◌≡◌, ℕ, zero, suc, ◌<◌, ◌≤◌, Bool, true, false, cond, ◌⊎◌, sym, refl, ap, ◌∙◌, inl, inr, arith}
 use Rattle.std.proofs.lemmas.Bool.{cases_Bool, cases_eq, cases_lt, both_ways}
-use Rattle.group.specs.Group.{Group, Lawful, Usable, unusable}
+use Rattle.std.proofs.lemmas.Bool.Decides.{nat_tests}
+use Rattle.group.specs.Group.{Group, Lawful, Usable, has, unusable}
 use Rattle.cells.specs.Sets.{Cellset, size_below}
 use Rattle.coset.specs.Code.{Code, code, sum_below, Reaches, Unreachable, Plan}
 use Rattle.coset.proofs.Sums.{label_in, sum_in}
@@ -63,6 +64,15 @@ unusable_unreachable g laws never n free d ne s reaches = ne (sym reaches.sums �
 pub outside_unreachable : (g : Group) → Lawful g → Usable g → (n : ℕ) (free : Cellset) (d : ℕ) → g.order ≤ d → Unreachable (code g n) free d
 outside_unreachable g laws usable n free d outside s reaches =
     let inside = sum_in (code g n) laws usable (label_in g laws n) s n in omega (arith, reaches.sums)
+
+-- so where d is neither 0 nor an element nothing sums to it
+pub no_element : (g : Group) → Lawful g → (n : ℕ) (free : Cellset) (d : ℕ) → (d ≡ 0 → ⊥) → has g d ≡ false → Unreachable (code g n) free d
+no_element g laws n free d ne none = go (cases_eq g.order unusable) (cases_lt d g.order)
+  where
+    go : (g.order ≡ unusable) ⊎ (g.order ≡ unusable → ⊥) → (d < g.order) ⊎ (g.order ≤ d) → Unreachable (code g n) free d
+    go (inl never) _ = unusable_unreachable g laws never n free d ne
+    go (inr usable) (inr outside) = outside_unreachable g laws usable n free d outside
+    go (inr usable) (inl inside) = absurd (grind (arith, nat_tests))
 
 -- The sums do not depend on how many cells a record has.
 sum_cells : (g : Group) (m n : ℕ) (s : Cellset) (k : ℕ) → sum_below (code g m) s k ≡ sum_below (code g n) s k

@@ -1,5 +1,5 @@
 -- Filling the planner's table row by row. Assumes nothing.
-use Rattle.std.proofs.Common.{◌≡◌, ℕ, ◌+◌, ◌-◌, ◌%◌, ◌<◌, ◌≤◌, min, Bool, true, false, cond, eqb, ◌⊎◌, sym, ap, ◌∙◌, ap₂, inl, inr, arith, below_more}
+use Rattle.std.proofs.Common.{◌≡◌, ℕ, ◌+◌, ◌<◌, ◌≤◌, min, Bool, true, false, cond, eqb, ◌⊎◌, sym, ap, ◌∙◌, ap₂, inl, inr, arith, below_more}
 use Rattle.std.proofs.lemmas.Bool.{cases_eq, eq-eqb, ne_eqb}
 use Rattle.group.specs.Group.{Group, Lawful, Usable, In, step}
 use Rattle.group.specs.NumberedLemmas.{sum_in}
@@ -7,13 +7,6 @@ use Rattle.cells.specs.Sets.{Cellset}
 use Rattle.coset.specs.Code.{code}
 use Rattle.coset.specs.Plans.{Puts, Fills, Filled, fewest_at, label_of, turn}
 use Rattle.coset.specs.declared.planner.Table.{Table}
-
--- what is left of s once the label of a cell is taken, by the calls that find it
-pub rest_is :
-    (g : Group) (cell order label opposite s rest : ℕ) → order ≡ g.order → label ≡ 1 + cell % (order - 1) → opposite ≡ g.opposite label →
-    rest ≡ g.sum s opposite → rest ≡ step g (label_of g cell) s
-rest_is g cell order label opposite s rest is_order is_label is_opposite is_rest =
-    is_rest ∙ ap (g.sum s) (is_opposite ∙ ap g.opposite (is_label ∙ ap (λ v. 1 + cell % (v - 1)) is_order))
 
 -- an entry depends on the next row at elements alone
 turn_agree :

@@ -41,12 +41,8 @@ impl CellSet {
     pub fn complement(&self) -> Self
         ensures { (i : ℕ) → i < 63 → members_of result i ≡ not (members_of self.now i) }
     {
-        let mut rest = CellSet::empty();
-        for cell in 0..MAX_CELLS {
-            if !self.contains(cell) {
-                rest.insert(cell);
-            }
+        CellSet {
+            members: self.members.map(|member| !member),
         }
-        rest
     }
 }

@@ -8,7 +8,7 @@ ghost use Rattle.coset.specs.Plans.{Plans, First, Puts, Fills, Filled, fewest_at
 
 use crate::cellset::{CellSet, MAX_CELLS};
 use crate::labels::label;
-use group::interface::{Group, UNUSABLE};
+use group::interface::Group;
 
 // the entry of an element that no cells sum to
 const UNREACHED: u8 = 255;
@@ -31,16 +31,83 @@ pub fn plan<G: Group>(group: &G, n: usize, free: &CellSet, step: u32) -> Option<
     if step == 0 {
         return Some(CellSet::empty());
     }
-    let order = group.order();
-    if order == UNUSABLE || step >= order {
+    if !group.has(step) {
         return None;
     }
-    let cells = n.min(MAX_CELLS);
-    let table = Table::filled(group, cells, free);
+    let search = Search {
+        group,
+        cells: n.min(MAX_CELLS),
+        free,
+    };
+    let table = search.table();
     if table.get(0, step) == UNREACHED {
         return None;
     }
-    Some(table.walk(group, cells, free, step))
+    Some(search.walk(&table, step))
+}
+
+// The cells of a record, which of them are free, and the usable group whose elements their labels are.
+#[derive(Drop)]
+struct Search<'a, G: Group> {
+    group: &'a G,
+    cells: usize,
+    free: &'a CellSet,
+    ghost usable: { Usable (G.Group.meaning group.now) },
+    ghost few: { cells ≤ 63 },
+}
+
+impl<G: Group> Search<'_, G> {
+    fn table(&self) -> Table
+        ensures { Filled (code (G.Group.meaning self.now.group.now) self.now.cells) (members_of self.now.free.now) result 0 }
+    {
+        let mut table = Table::unreached();
+        table.put(self.cells, 0, 0);
+        for cell in (0..self.cells).rev() {
+            self.fill_row(&mut table, cell);
+        }
+        table
+    }
+
+    // The row of a cell, from that of the next: leaving the cell out, or taking it.
+    fn fill_row(&self, table: &mut Table, cell: usize)
+        requires { cell < self.now.cells }
+        ensures { Fills (G.Group.meaning self.now.group.now) (members_of self.now.free.now) cell (G.Group.meaning self.now.group.now).order table.old table.new }
+    {
+        let opposite = self.group.opposite(label(self.group, cell));
+        let is_free = self.free.contains(cell);
+        for s in 0..self.group.order() {
+            let left_out = table.get(cell + 1, s);
+            let rest = self.group.sum(s, opposite);
+            let taken = table.get(cell + 1, rest).saturating_add(1);
+            let best = if is_free {
+                left_out.min(taken)
+            } else {
+                left_out
+            };
+            table.put(cell, s, best);
+        }
+    }
+
+    // From the first cell on, a cell is taken wherever the fewest cells from it on can do with it.
+    fn walk(&self, table: &Table, step: u32) -> CellSet
+        requires filled { Filled (code (G.Group.meaning self.now.group.now) self.now.cells) (members_of self.now.free.now) table.now 0 }
+        requires element { In (G.Group.meaning self.now.group.now) step }
+        requires reached { fewest_at table.now 0 step < 255 }
+        ensures plan { Plan (code (G.Group.meaning self.now.group.now) self.now.cells) (members_of self.now.free.now) step (members_of result) }
+        ensures first { First (code (G.Group.meaning self.now.group.now) self.now.cells) (members_of self.now.free.now) step (members_of result) }
+    {
+        let mut chosen = CellSet::empty();
+        let mut rest = step;
+        for cell in 0..self.cells {
+            let after = self.group.step(label(self.group, cell), rest);
+            let taken = table.get(cell + 1, after).saturating_add(1);
+            if self.free.contains(cell) && taken == table.get(cell, rest) {
+                chosen.insert(cell);
+                rest = after;
+            }
+        }
+        chosen
+    }
 }
 
 impl Table {
@@ -66,63 +133,5 @@ impl Table {
         ensures { Puts cell s count self.old self.new }
     {
         self.fewest[cell * ROW + s as usize] = count;
-    }
-
-    fn filled<G: Group>(group: &G, cells: usize, free: &CellSet) -> Self
-        requires usable { Usable (G.Group.meaning group.now) }
-        requires cells_bound { cells ≤ 63 }
-        ensures { Filled (code (G.Group.meaning group.now) cells) (members_of free.now) result 0 }
-    {
-        let mut table = Table::unreached();
-        table.put(cells, 0, 0);
-        for cell in (0..cells).rev() {
-            table.fill_row(group, cell, free);
-        }
-        table
-    }
-
-    // The row of a cell, from that of the next: leaving the cell out, or taking it.
-    fn fill_row<G: Group>(&mut self, group: &G, cell: usize, free: &CellSet)
-        requires usable { Usable (G.Group.meaning group.now) }
-        requires cell_bound { cell < 63 }
-        ensures { Fills (G.Group.meaning group.now) (members_of free.now) cell (G.Group.meaning group.now).order self.old self.new }
-    {
-        let order = group.order();
-        let opposite = group.opposite(label(order, cell));
-        let is_free = free.contains(cell);
-        for s in 0..order {
-            let left_out = self.get(cell + 1, s);
-            let taken = self.get(cell + 1, group.sum(s, opposite)).saturating_add(1);
-            let best = if is_free {
-                left_out.min(taken)
-            } else {
-                left_out
-            };
-            self.put(cell, s, best);
-        }
-    }
-
-    // From the first cell on, a cell is taken wherever the fewest cells from it on can do with it.
-    fn walk<G: Group>(&self, group: &G, cells: usize, free: &CellSet, step: u32) -> CellSet
-        requires usable { Usable (G.Group.meaning group.now) }
-        requires few { cells ≤ 63 }
-        requires filled { Filled (code (G.Group.meaning group.now) cells) (members_of free.now) self.now 0 }
-        requires element { In (G.Group.meaning group.now) step }
-        requires reached { fewest_at self.now 0 step < 255 }
-        ensures plan { Plan (code (G.Group.meaning group.now) cells) (members_of free.now) step (members_of result) }
-        ensures first { First (code (G.Group.meaning group.now) cells) (members_of free.now) step (members_of result) }
-    {
-        let order = group.order();
-        let mut chosen = CellSet::empty();
-        let mut rest = step;
-        for cell in 0..cells {
-            let after = group.sum(rest, group.opposite(label(order, cell)));
-            let taken = self.get(cell + 1, after).saturating_add(1);
-            if free.contains(cell) && taken == self.get(cell, rest) {
-                chosen.insert(cell);
-                rest = after;
-            }
-        }
-        chosen
     }
 }

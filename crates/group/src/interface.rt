@@ -1,7 +1,7 @@
 // The trait of the finite abelian groups whose elements are numbered from 0.
 // A group may be unusable: its order is then 65, and its sums and opposites are 0.
 ghost use Rattle.std.specs.Prelude.{◌≡◌};
-ghost use Rattle.group.specs.Group.{Group as GroupMeaning, Lawful, has, is_usable};
+ghost use Rattle.group.specs.Group.{Group as GroupMeaning, Lawful, has, is_usable, step};
 
 // the largest order of a usable group
 pub const MAX_ORDER: u32 = 64;
@@ -36,6 +36,13 @@ pub trait Group {
         ensures { result ≡ has (meaning self.now) a }
     {
         self.is_usable() && a < self.order()
+    }
+
+    // the difference, which added to `from` gives `to`
+    fn step(&self, from: u32, to: u32) -> u32
+        ensures { result ≡ step (meaning self.now) from to }
+    {
+        self.sum(to, self.opposite(from))
     }
 
     ghost lawful: { (g : Self) → Lawful (meaning g) };

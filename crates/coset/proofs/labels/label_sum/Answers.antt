@@ -1,23 +1,17 @@
-use Rattle.std.proofs.Common.{◌+◌, ◌-◌, ◌%◌, sym, refl, ap, ◌∙◌, ap₂}
+use Rattle.std.proofs.Common.{rules, tests, arith, ◌∙◌}
+use Rattle.std.proofs.lemmas.Iterator.{YieldsList-from_range}
+use Rattle.std.proofs.lemmas.Iterator.Consumers.{YieldsList-from_filter, fold_from_yields_List}
 use Rattle.coset.specs.CellSets.{members_of}
-use Rattle.coset.specs.Code.{code, sum_below}
-use Rattle.coset.proofs.Sums.{sum_with, sum_without}
+use Rattle.coset.specs.Code.{code}
+use Rattle.coset.specs.Plans.{label_of}
+use Rattle.coset.proofs.Sums.{sum_fold}
 use Rattle.coset.proofs.labels.label_sum.Goals as goal
-use Rattle.coset.proofs.labels.label_sum.Goals.{then-contains, else-contains}
 
-pub loop-cell-init : goal.loop-cell-init
-unfolding sum_below
-loop-cell-init g c = refl
-
-pub loop-cell-preserved : goal.loop-cell-preserved
-loop-cell-preserved g c =
+pub returns : goal.returns
+returns g c =
     let group = g.G.Group.meaning c.args.group.now in
-    let s = members_of c.args.set.now in
-    elim c.if-contains.branch [
-      | then-contains w ↦
-          w.sum-is ∙ w.sum-sum.ensures ∙ ap₂ group.sum c.loop-cell.invariant (w.label.ensures ∙ ap (λ v. 1 + c.loop-cell.cell % (v - 1)) c.order-order.ensures)
-          ∙ sym (sum_with (code group c.args.n) s c.loop-cell.cell (sym c.contains.ensures ∙ w.if-contains.true))
-      | else-contains w ↦
-          w.sum-is ∙ c.loop-cell.invariant
-          ∙ sym (sum_without (code group c.args.n) s c.loop-cell.cell (sym c.contains.ensures ∙ w.if-contains.false))
-    ]
+    let set = members_of c.args.set.now in
+    fold_from_yields_List _ (λ sum cell. group.sum sum (label_of group cell)) 0 _ c.fold.ensures.ran
+    (YieldsList-from_filter _ set (YieldsList-from_range 0 c.args.n c.args.n c.filter.ensures.source (omega arith)) c.filter.ensures.closure (λ cell b q k. search (rules, tests)))
+    (λ sum cell b q k. search (rules, tests))
+    ∙ sum_fold (code group c.args.n) set c.args.n

@@ -1,31 +1,30 @@
 use Rattle.std.proofs.Common.{◌≡◌, ℕ, ◌+◌, sym, ap, ◌∙◌, arith}
 use Rattle.std.proofs.lemmas.Bool.{both_ways}
-use Rattle.group.specs.Group.{Group, Lawful, step}
+use Rattle.group.specs.Group.{Group, Lawful, Usable, step}
 use Rattle.coset.specs.CellSets.{members_of}
 use Rattle.coset.specs.Plans.{fewest_at, label_of}
-use Rattle.coset.proofs.Rows.{rest_is}
 use Rattle.coset.proofs.Walks.{walk_starts, walk_takes, walk_leaves, walk_ends, walk_first}
-use Rattle.coset.proofs.planner.Table.walk.Goals as goal
-use Rattle.coset.proofs.planner.Table.walk.Goals.{then-contains+then-taken-get, else-contains, else-contains-via-then-contains+else-taken-get, else-contains-via-else-contains}
+use Rattle.coset.proofs.planner.Search.walk.Goals as goal
+use Rattle.coset.proofs.planner.Search.walk.Goals.{then-contains+then-taken-get, else-contains, else-contains-via-then-contains+else-taken-get, else-contains-via-else-contains}
 
 pub loop-cell-init : goal.loop-cell-init
 loop-cell-init g c =
-    let laws = g.met.G.Group.lawful c.args.group.now in
-    walk_starts _ laws c.requires.usable c.args.cells _ c.args.self.now c.requires.filled c.args.step
+    let laws = g.met.G.Group.lawful c.args.self.now.group.now in
+    walk_starts _ laws c.args.self.now.usable c.args.self.now.cells _ c.args.table.now c.requires.filled c.args.step
     _ c.empty-chosen.ensures c.requires.element c.requires.reached
 
 pub loop-cell-preserved : goal.loop-cell-preserved
 loop-cell-preserved g c =
     elim c.if-contains.branch [
       | then-contains+then-taken-get w ↦
-          walk_takes group laws c.requires.usable c.args.cells _ c.args.self.now c.requires.filled c.args.step
+          walk_takes group laws usable c.args.self.now.cells _ c.args.table.now c.requires.filled c.args.step
           cell c.loop-cell-test.true _ c.loop-cell.rest c.loop-cell.invariant
           _ (λ j. ap (λ s. members_of s j) w.chosen-is ∙ w.insert.ensures.taken (omega arith) j)
           _ (w.rest-is ∙ rest) (sym c.contains.ensures ∙ w.if-contains.true)
           (omega (arith, ap next w.rest-is))
       | else-contains w ↦
           rw (w.chosen-is, w.rest-is)
-          (walk_leaves group laws c.requires.usable c.args.cells _ c.args.self.now c.requires.filled c.args.step
+          (walk_leaves group laws usable c.args.self.now.cells _ c.args.table.now c.requires.filled c.args.step
           cell c.loop-cell-test.true _ c.loop-cell.rest c.loop-cell.invariant
           (elim w.else-contains.branch [
             | else-contains-via-then-contains+else-taken-get w' ↦ λ _ best. w'.if-taken-get.false (omega (arith, ap next rest))
@@ -34,30 +33,31 @@ loop-cell-preserved g c =
     ]
   where
     group : Group
-    group = g.G.Group.meaning c.args.group.now
+    group = g.G.Group.meaning c.args.self.now.group.now
 
     laws : Lawful group
-    laws = g.met.G.Group.lawful c.args.group.now
+    laws = g.met.G.Group.lawful c.args.self.now.group.now
+
+    usable : Usable group
+    usable = c.args.self.now.usable
 
     cell : ℕ
     cell = c.loop-cell.cell
 
     next : ℕ → ℕ
-    next = fewest_at c.args.self.now (cell + 1)
+    next = fewest_at c.args.table.now (cell + 1)
 
-    rest : c.sum-after.result ≡ step group (label_of group cell) c.loop-cell.rest
-    rest =
-        rest_is group cell _ _ _ c.loop-cell.rest _ c.order-order.ensures c.label.ensures c.opposite.ensures
-        c.sum-after.ensures
+    rest : c.step-after.result ≡ step group (label_of group cell) c.loop-cell.rest
+    rest = c.step-after.ensures ∙ ap (λ label. step group label c.loop-cell.rest) c.label.ensures
 
 pub returns : goal.returns
 returns g c =
-    let laws = g.met.G.Group.lawful c.args.group.now in
+    let laws = g.met.G.Group.lawful c.args.self.now.group.now in
     record {
       plan =
-          walk_ends _ laws c.requires.usable c.args.cells _ c.args.self.now c.requires.filled c.args.step
+          walk_ends _ laws c.args.self.now.usable c.args.self.now.cells _ c.args.table.now c.requires.filled c.args.step
           c.loop-cell.cell (omega arith) _ _ c.loop-cell.invariant;
       first =
-          walk_first _ laws c.requires.usable c.args.cells _ c.args.self.now c.requires.filled c.args.step
+          walk_first _ laws c.args.self.now.usable c.args.self.now.cells _ c.args.table.now c.requires.filled c.args.step
           c.loop-cell.cell (omega arith) _ _ c.loop-cell.invariant;
     }
