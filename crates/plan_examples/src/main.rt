@@ -2,7 +2,7 @@
 // Cells count from 0; in these records cell i has the label i + 1.
 #![tactic(auto)]
 
-use coset::cellset::CellSet;
+use coset::cellset::{CellSet, MAX_CELLS};
 use coset::labels::label_sum;
 use coset::planner::plan;
 use group::integers::Integers;
@@ -27,7 +27,7 @@ impl<G: Group> Code<'_, G> {
         }
         let name = self.name;
         let value = label_sum(&self.group, self.cells, &held);
-        let step = self.group.sum(target, self.group.opposite(value));
+        let step = self.group.step(value, target);
         print!(rt; "{name}: from {value} to {target}, step {step}:")?;
         match plan(&self.group, self.cells, &held.complement(), step) {
             None => println!(rt; " full"),
@@ -38,10 +38,8 @@ impl<G: Group> Code<'_, G> {
 
 fn print_cells(rt: &HostRuntime, set: &CellSet) -> io::Result<()> {
     print!(rt; " set")?;
-    for cell in 0..63usize {
-        if set.contains(cell) {
-            print!(rt; " {cell}")?;
-        }
+    for cell in (0..MAX_CELLS).filter(|cell| set.contains(*cell)) {
+        print!(rt; " {cell}")?;
     }
     println!(rt; "")
 }
