@@ -1,46 +1,38 @@
 -- The bench part, fresh and after an erase. Assumes nothing.
-use Rattle.std.proofs.Common.{◌≡◌, ℕ, zero, suc, ◌+◌, ◌*◌, ◌<◌, ◌≤◌, min, Bool, false, ◌⊎◌, List, [], ◌∷◌, length, get_or, set, replicate, refl, ap, ◌∙◌, inl, inr, arith}
-use borrow.Rule.Slice.PartMut.{put_mid}
-use Rattle.std.proofs.lemmas.List.{length-replicate, get_or-replicate, get_or-set_same, get_or-set_other}
-use Rattle.std.proofs.lemmas.Bool.{cases_order}
+use Rattle.std.proofs.Common.{◌≡◌, ℕ, zero, suc, ◌+◌, ◌<◌, min, false, List, [], ◌∷◌, length, get_or, set, replicate, refl, ap, ◌∙◌, arith}
+use Rattle.std.proofs.lemmas.List.{get_or-replicate, get_or-set_same, get_or-set_other}
+use Rattle.cells.specs.declared.bench.Page.{Page}
 use Rattle.cells.specs.Cells.{Fresh}
 use Rattle.cells.specs.Device.{Erased}
-use Rattle.cells.specs.Bench.{bench_cells}
-use Rattle.cells.proofs.Mids.{mid_below, mid_above, mid_inside}
+use Rattle.cells.specs.Bench.{bench_page, bench_cells}
 
-pub bench_fresh : Fresh (bench_cells (replicate 128 false) (0 ∷ (0 ∷ [])))
-bench_fresh =
-    record {
-      unset = λ p i cell. let page = cell.page in let place = cell.cell in get_or-replicate 128 (64 * p + i) false false (omega arith);
-      unworn = none;
-    }
-  where
-    none : (p : ℕ) → p < 2 → min 3 (get_or (0 ∷ (0 ∷ [])) p 0) ≡ 0
-    none zero h = refl
-    none (suc zero) h = refl
-    none (suc (suc p)) h = absurd (omega arith)
+-- a page that was made so is unset
+module _ (page : Page) (flags : page.set ≡ replicate 64 false) where
+  pub page_unset : (i : ℕ) → i < 64 → get_or page.set i false ≡ false
+  page_unset i h = ap (λ l. get_or l i false) flags ∙ get_or-replicate 64 i false false h
 
-module _ (flags page : List Bool) (worn : List ℕ) (p k w : ℕ) (a : p < 2) (cells : length flags ≡ 128) (pages : length worn ≡ 2)
-    (whole : k ≡ 64) (unset : page ≡ replicate k false) (read : w ≡ min 3 (get_or worn p 0)) (fresh : w < 3) where
-  room : 64 * p + k ≤ length flags
-  room = omega arith
+  pub bench_fresh : page.worn ≡ 0 → Fresh (bench_cells (page ∷ (page ∷ [])))
+  bench_fresh none = record { unset = λ p i cell. cells p i cell.page cell.cell; unworn = pages }
+    where
+      cells : (p i : ℕ) → p < 2 → i < 64 → get_or (bench_page (page ∷ (page ∷ [])) p).set i false ≡ false
+      cells zero i a b = page_unset i b
+      cells (suc zero) i a b = page_unset i b
+      cells (suc (suc p)) i a b = absurd (omega arith)
 
-  same : length page ≡ k
-  same = ap length unset ∙ length-replicate k false
+      pages : (p : ℕ) → p < 2 → min 3 (bench_page (page ∷ (page ∷ [])) p).worn ≡ 0
+      pages zero a = omega arith
+      pages (suc zero) a = omega arith
+      pages (suc (suc p)) a = absurd (omega arith)
 
-  pub bench_erased : Erased p (bench_cells flags worn) (bench_cells (put_mid (64 * p) k flags page) (set worn p (w + 1)))
-  bench_erased =
+  pub bench_erased :
+      (pages : List Page) (p w : ℕ) → p < 2 → length pages ≡ 2 → w ≡ min 3 (bench_page pages p).worn → w < 3 → page.worn ≡ w + 1 →
+      Erased p (bench_cells pages) (bench_cells (set pages p page))
+  bench_erased pages p w a all read fresh more =
+      let here = get_or-set_same pages p page (record { set = []; worn = 0 }) (omega arith) in
       record {
         shape = record { pages = refl; width = refl; limit = refl };
-        here = λ i h.
-            mid_inside false (64 * p) k flags page room same i (omega arith) ∙ ap (λ l. get_or l i false) unset
-            ∙ get_or-replicate k i false false (omega arith);
-        others = λ q j cell apart. other q j cell.cell apart (cases_order q p);
-        worn = let more = get_or-set_same worn p (w + 1) 0 (omega arith) in omega arith;
-        unworn = λ q h apart. ap (min 3) (get_or-set_other worn p q (w + 1) 0 apart);
+        here = λ i h. ap (λ (q : Page). get_or q.set i false) here ∙ page_unset i h;
+        others = λ q j cell apart. ap (λ (k : Page). get_or k.set j false) (get_or-set_other pages p q page _ apart);
+        worn = let now = ap (λ (q : Page). q.worn) here in omega arith;
+        unworn = λ q h apart. ap (λ (k : Page). min 3 k.worn) (get_or-set_other pages p q page _ apart);
       }
-    where
-      other : (q j : ℕ) → j < 64 → (q ≡ p → ⊥) → ((q ≡ p) ⊎ ((q < p) ⊎ (p < q))) → get_or (put_mid (64 * p) k flags page) (64 * q + j) false ≡ get_or flags (64 * q + j) false
-      other q j h apart (inl e) = absurd (apart e)
-      other q j h apart (inr (inl lt)) = mid_below false (64 * p) k flags page room same (64 * q + j) (omega arith)
-      other q j h apart (inr (inr lt)) = mid_above false (64 * p) k flags page room same (64 * q + j) (omega arith)

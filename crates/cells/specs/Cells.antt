@@ -1,5 +1,5 @@
 -- Pages of cells that can only be set, and that an erase takes back a page at a time. Assumes nothing.
-use Rattle.std.specs.Prelude.{◌≡◌, ℕ, ◌<◌, ◌≤◌, Bool, false}
+use Rattle.std.specs.Prelude.{◌≡◌, ℕ, ◌<◌, ◌≤◌, Bool, false, ◌&&◌, nat_lt}
 
 -- What a cell array means: its pages, the cells of each, which cells are set, and how often each page was erased of
 -- how often it may be. An array that cannot be erased has no wear and the limit 0.
@@ -20,6 +20,10 @@ pub record Shaped (m n : Cells) : Type 0 where
 pub record Cell (m : Cells) (p i : ℕ) : Type 0 where
   pub page : p < m.pages
   pub cell : i < m.width
+
+-- whether there is such a cell, and it is set
+abbrev pub is_set : Cells → ℕ → ℕ → Bool
+is_set m p i = nat_lt p m.pages && nat_lt i m.width && m.set p i
 
 -- m and n are one meaning: they agree on every page and cell that there is
 pub record Alike (m n : Cells) : Type 0 where

@@ -39,6 +39,16 @@ pub record Erased (p : ℕ) (before after : Cells) : Type 0 where
   pub worn : after.wear p ≡ before.wear p + 1
   pub unworn : (q : ℕ) → q < before.pages → (q ≢ p) → after.wear q ≡ before.wear q
 
+-- The check that there is a page p.
+abbrev pub FindsPage : Cells → ℕ → {A : Type 0} → Result A DeviceFault → Type 0
+FindsPage m p (Ok u) = Served (page_rows m p)
+FindsPage m p (Err f) = Refused (page_rows m p) (device_number f) × Names f p None
+
+-- The check that it has a cell i.
+abbrev pub FindsCell : Cells → ℕ → ℕ → {A : Type 0} → Result A DeviceFault → Type 0
+FindsCell m p i (Ok u) = Served (cell_rows m p i)
+FindsCell m p i (Err f) = Refused (cell_rows m p i) (device_number f) × Names f p (Some i)
+
 -- A look answers whether the cell is set.
 abbrev pub Looks : Cells → ℕ → ℕ → Result Bool DeviceFault → Type 0
 Looks m p i (Ok b) = Served (cell_rows m p i) × (b ≡ m.set p i)

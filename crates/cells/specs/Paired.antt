@@ -1,11 +1,8 @@
 -- The paired part: each cell stands on two cells of an array below. Assumes nothing.
-use Rattle.std.specs.Prelude.{◌≡◌, ℕ, ◌+◌, ◌*◌, ◌/◌, ◌<◌, true, ◌||◌, Some, Ok, Err, Result}
+use Rattle.std.specs.Prelude.{◌≡◌, ℕ, ◌+◌, ◌*◌, ◌/◌, ◌<◌, true, ◌||◌, Ok, Err, Result}
 use Rattle.std.proofs.Common.{arith}
 use Rattle.cells.specs.declared.fault.DeviceFault.{DeviceFault}
 use Rattle.cells.specs.Cells.{Cells, Shaped, Cell, Bounded}
-use Rattle.cells.specs.Rows.{Refused, Served}
-use Rattle.cells.specs.Faults.{device_number}
-use Rattle.cells.specs.Device.{cell_rows, Names}
 
 -- cell i is set when cell 2 i or cell 2 i + 1 below is
 abbrev pub paired_cells : Cells → Cells
@@ -35,8 +32,3 @@ pub record BothMarked (p i : ℕ) (before after : Cells) : Type 0 where
 abbrev pub MarksBoth : ℕ → ℕ → Cells → Cells → {A : Type 0} → Result A DeviceFault → Type 0
 MarksBoth p i before after (Ok u) = BothMarked p i before after
 MarksBoth p i before after (Err f) = after ≡ before
-
--- the first cell below cell i of page p, or why there is no such cell
-abbrev pub Places : Cells → ℕ → ℕ → Result ℕ DeviceFault → Type 0
-Places m p i (Ok j) = Served (cell_rows (paired_cells m) p i) × (j ≡ 2 * i)
-Places m p i (Err f) = Refused (cell_rows (paired_cells m) p i) (device_number f) × Names f p (Some i)

@@ -2,8 +2,8 @@
 // Each call's contract holds for every argument; a refusal alters nothing.
 ghost use Rattle.std.specs.Prelude.{◌≡◌, List};
 ghost use Rattle.std.specs.Borrow.{GName};
-ghost use Rattle.cells.specs.Cells.{Cells, Bounded};
-ghost use Rattle.cells.specs.Device.{Looks, Marks, Wears, Erases};
+ghost use Rattle.cells.specs.Cells.{Cells, Bounded, is_set};
+ghost use Rattle.cells.specs.Device.{FindsPage, FindsCell, Looks, Marks, Wears, Erases};
 
 use crate::fault::DeviceFault;
 
@@ -28,8 +28,41 @@ pub trait CellArray {
     fn width(&self) -> usize
         ensures { result ≡ (cells self.now).width };
 
+    // Whether there is such a page.
+    fn check_page(&self, page: usize) -> Result<(), DeviceFault>
+        ensures { FindsPage (cells self.now) page result }
+    {
+        if page >= self.pages() {
+            return Err(DeviceFault::NoPage { page, cell: None });
+        }
+        Ok(())
+    }
+
+    // Whether there is such a cell.
+    fn check_cell(&self, page: usize, cell: usize) -> Result<(), DeviceFault>
+        ensures { FindsCell (cells self.now) page cell result }
+    {
+        if page >= self.pages() {
+            return Err(DeviceFault::NoPage {
+                page,
+                cell: Some(cell),
+            });
+        }
+        if cell >= self.width() {
+            return Err(DeviceFault::NoCell { page, cell });
+        }
+        Ok(())
+    }
+
     fn look(&self, page: usize, cell: usize) -> Result<bool, DeviceFault>
         ensures { Looks (cells self.now) page cell result };
+
+    // Whether there is such a cell, and it is set.
+    final fn is_set(&self, page: usize, cell: usize) -> bool
+        ensures { result ≡ is_set (cells self.now) page cell }
+    {
+        self.look(page, cell).unwrap_or(false)
+    }
 
     fn mark(&mut self, page: usize, cell: usize) -> Result<(), DeviceFault>
         ensures held { held self.new ≡ held self.old }

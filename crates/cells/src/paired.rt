@@ -2,7 +2,7 @@
 // It can be erased where the array below can.
 ghost use Rattle.std.specs.Prelude.{◌≡◌, ◌*◌};
 ghost use Rattle.cells.specs.Device.{Marks, Erases};
-ghost use Rattle.cells.specs.Paired.{paired_cells, paired_bounded, MarksBoth, Places};
+ghost use Rattle.cells.specs.Paired.{paired_cells, paired_bounded, MarksBoth};
 
 use crate::array::{CellArray, Erasable};
 use crate::fault::DeviceFault;
@@ -28,24 +28,6 @@ impl<A> Paired<A> {
     }
 }
 
-impl<A: CellArray> Paired<A> {
-    // The first of the two cells below a cell.
-    fn below(&self, page: usize, cell: usize) -> Result<usize, DeviceFault>
-        ensures { Places (A.CellArray.cells self.now.array) page cell result }
-    {
-        if page >= self.array.pages() {
-            return Err(DeviceFault::NoPage {
-                page,
-                cell: Some(cell),
-            });
-        }
-        if cell >= self.array.width() / 2 {
-            return Err(DeviceFault::NoCell { page, cell });
-        }
-        Ok(2 * cell)
-    }
-}
-
 impl<A: CellArray> CellArray for Paired<A> {
     ghost cells = { λ p. paired_cells (A.CellArray.cells p.array) };
 
@@ -64,9 +46,9 @@ impl<A: CellArray> CellArray for Paired<A> {
     }
 
     fn look(&self, page: usize, cell: usize) -> Result<bool, DeviceFault> {
-        let below = self.below(page, cell)?;
-        let first = self.array.look(page, below)?;
-        let second = self.array.look(page, below + 1)?;
+        self.check_cell(page, cell)?;
+        let first = self.array.look(page, 2 * cell)?;
+        let second = self.array.look(page, 2 * cell + 1)?;
         Ok(first | second)
     }
 
@@ -76,9 +58,9 @@ impl<A: CellArray> CellArray for Paired<A> {
         ensures marks { Marks page cell (paired_cells (A.CellArray.cells self.old.array)) (paired_cells (A.CellArray.cells self.new.array)) result }
         ensures both { MarksBoth page cell (A.CellArray.cells self.old.array) (A.CellArray.cells self.new.array) result }
     {
-        let below = self.below(page, cell)?;
-        self.array.mark(page, below)?;
-        self.array.mark(page, below + 1)?;
+        (*self).check_cell(page, cell)?;
+        self.array.mark(page, 2 * cell)?;
+        self.array.mark(page, 2 * cell + 1)?;
         Ok(())
     }
 }
