@@ -2,6 +2,7 @@
 // Where there is no memory for the answers nothing is done.
 ghost use Rattle.std.specs.Prelude.{◌≡◌, map, IfOk, OnErr};
 ghost use Rattle.coset.specs.Code.{code};
+ghost use Rattle.calls.specs.declared.call.Call.{Call as CallMeaning};
 ghost use Rattle.calls.specs.Calls.{state_of, Obeys};
 ghost use Rattle.calls.specs.Promise.{Promise, WithinCeiling};
 ghost use Rattle.calls.specs.Runs.{as_call};
@@ -14,77 +15,60 @@ use cells::array::{CellArray, Erasable};
 use group::interface::Group;
 use std::alloc::{AllocError, Global};
 
-impl<G: Group, A: Erasable> Store<G, A> {
-    // One call of a list.
-    pub(crate) fn serve(&mut self, call: Call) -> Result<u32, StoreFault>
-        ensures held { A.CellArray.held self.new.array ≡ A.CellArray.held self.old.array }
-        ensures intact { A.CellArray.intact self.old.array → A.CellArray.intact self.new.array }
-        ensures group { self.new.group ≡ self.old.group }
-        ensures n { self.new.n ≡ self.old.n }
-        ensures obeys { Obeys (code (G.Group.meaning self.old.group) self.old.n) call result (state_of (A.CellArray.cells self.old.array) self.old.ledger) (state_of (A.CellArray.cells self.new.array) self.new.ledger) }
-    {
-        match call {
-            Call::Get { record } => self.get(record),
-            Call::Put { record, value } => self.put(record, value),
-            Call::Renew { record, value } => self.renew(record, value),
+// What a store over arrays of the type A can be asked: any call where they can be erased, and else an access.
+pub trait Request<A: CellArray> {
+    // the call that it is
+    ghost call: { Self → CallMeaning };
+
+    fn serve<G: Group>(&self, store: &mut Store<G, A>) -> Result<u32, StoreFault>
+        ensures held { A.CellArray.held store.new.array ≡ A.CellArray.held store.old.array }
+        ensures intact { A.CellArray.intact store.old.array → A.CellArray.intact store.new.array }
+        ensures group { store.new.group ≡ store.old.group }
+        ensures n { store.new.n ≡ store.old.n }
+        ensures obeys { Obeys (code (G.Group.meaning store.old.group) store.old.n) (call self.now) result (state_of (A.CellArray.cells store.old.array) store.old.ledger) (state_of (A.CellArray.cells store.new.array) store.new.ledger) };
+}
+
+impl<A: Erasable> Request<A> for Call {
+    ghost call = { λ c. c };
+
+    fn serve<G: Group>(&self, store: &mut Store<G, A>) -> Result<u32, StoreFault> {
+        match *self {
+            Call::Get { record } => store.get(record),
+            Call::Put { record, value } => store.put(record, value),
+            Call::Renew { record, value } => store.renew(record, value),
         }
     }
+}
 
-    // Serves a list of gets, puts and renewals, and gives their answers in order.
-    pub fn apply(
+impl<A: CellArray> Request<A> for Access {
+    ghost call = { as_call };
+
+    fn serve<G: Group>(&self, store: &mut Store<G, A>) -> Result<u32, StoreFault> {
+        match *self {
+            Access::Get { record } => store.get(record),
+            Access::Put { record, value } => store.put(record, value),
+        }
+    }
+}
+
+impl<G: Group, A: CellArray> Store<G, A> {
+    // Serves a list of calls, and gives their answers in order.
+    pub fn apply<C: Request<A>>(
         &mut self,
         heap: Global,
-        calls: &[Call],
+        calls: &[C],
     ) -> Result<Vec<Result<u32, StoreFault>>, AllocError>
         ensures held { A.CellArray.held self.new.array ≡ A.CellArray.held self.old.array }
         ensures intact { A.CellArray.intact self.old.array → A.CellArray.intact self.new.array }
         ensures group { self.new.group ≡ self.old.group }
         ensures n { self.new.n ≡ self.old.n }
-        ensures promise { IfOk result (λ answers. Promise (G.Group.meaning self.old.group) self.old.n (state_of (A.CellArray.cells self.old.array) self.old.ledger) calls.now answers.items (state_of (A.CellArray.cells self.new.array) self.new.ledger)) }
+        ensures promise { IfOk result (λ answers. Promise (G.Group.meaning self.old.group) self.old.n (state_of (A.CellArray.cells self.old.array) self.old.ledger) (map C.Request.call calls.now) answers.items (state_of (A.CellArray.cells self.new.array) self.new.ledger)) }
         ensures refused { OnErr result (self.new ≡ self.old) }
     {
         let _largest = largest(&self.ledger);
         let mut answers = Vec::with_capacity(heap, calls.len())?;
         for call in calls {
-            let answer = self.serve(*call);
-            answers.push_reserved(answer);
-        }
-        Ok(answers)
-    }
-}
-
-impl<G: Group, A: CellArray> Store<G, A> {
-    // One access of a list.
-    fn serve_access(&mut self, access: Access) -> Result<u32, StoreFault>
-        ensures held { A.CellArray.held self.new.array ≡ A.CellArray.held self.old.array }
-        ensures intact { A.CellArray.intact self.old.array → A.CellArray.intact self.new.array }
-        ensures group { self.new.group ≡ self.old.group }
-        ensures n { self.new.n ≡ self.old.n }
-        ensures obeys { Obeys (code (G.Group.meaning self.old.group) self.old.n) (as_call access) result (state_of (A.CellArray.cells self.old.array) self.old.ledger) (state_of (A.CellArray.cells self.new.array) self.new.ledger) }
-    {
-        match access {
-            Access::Get { record } => self.get(record),
-            Access::Put { record, value } => self.put(record, value),
-        }
-    }
-
-    // Serves a list of gets and puts over any array, and gives their answers in order.
-    pub fn apply_accesses(
-        &mut self,
-        heap: Global,
-        accesses: &[Access],
-    ) -> Result<Vec<Result<u32, StoreFault>>, AllocError>
-        ensures held { A.CellArray.held self.new.array ≡ A.CellArray.held self.old.array }
-        ensures intact { A.CellArray.intact self.old.array → A.CellArray.intact self.new.array }
-        ensures group { self.new.group ≡ self.old.group }
-        ensures n { self.new.n ≡ self.old.n }
-        ensures promise { IfOk result (λ answers. Promise (G.Group.meaning self.old.group) self.old.n (state_of (A.CellArray.cells self.old.array) self.old.ledger) (map as_call accesses.now) answers.items (state_of (A.CellArray.cells self.new.array) self.new.ledger)) }
-        ensures refused { OnErr result (self.new ≡ self.old) }
-    {
-        let _largest = largest(&self.ledger);
-        let mut answers = Vec::with_capacity(heap, accesses.len())?;
-        for access in accesses {
-            let answer = self.serve_access(*access);
+            let answer = call.serve(self);
             answers.push_reserved(answer);
         }
         Ok(answers)

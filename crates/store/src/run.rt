@@ -6,6 +6,7 @@ ghost use Rattle.calls.specs.Ledger.{blank};
 ghost use Rattle.calls.specs.Promise.{Promise};
 ghost use Rattle.calls.specs.Runs.{as_call};
 
+use crate::list::Request;
 use crate::store::Store;
 use calls::call::{Access, Call};
 use calls::fault::StoreFault;
@@ -34,22 +35,13 @@ pub fn run_calls<G: Group + Drop, A: Erasable>(
     ensures promise { IfOk result (λ run. Promise (G.Group.meaning group) n (state_of (A.CellArray.cells array.old) blank) calls.now run.answers.items (state_of (A.CellArray.cells array.new) run.ledger)) }
     ensures refused { OnErr result (array.new ≡ array.old) }
 {
-    let mut store = Store::new(group, array, n);
-    let applied = store.apply(heap, calls);
-    let Store {
-        group: _group,
-        array,
-        n: _,
-        ledger,
-    } = store;
+    let (array, run) = apply_to(heap, group, array, n, calls);
     let _ = array;
-    Ok(Run {
-        answers: applied?,
-        ledger,
-    })
+    run
 }
 
 // Makes a store over any cell array, and applies gets and puts to it.
+// It is not one with `run_calls`, since no bound can say yet that a list can be served over every borrow of an array.
 pub fn run_accesses<G: Group + Drop, A: CellArray>(
     heap: Global,
     group: G,
@@ -62,17 +54,31 @@ pub fn run_accesses<G: Group + Drop, A: CellArray>(
     ensures promise { IfOk result (λ run. Promise (G.Group.meaning group) n (state_of (A.CellArray.cells array.old) blank) (map as_call accesses.now) run.answers.items (state_of (A.CellArray.cells array.new) run.ledger)) }
     ensures refused { OnErr result (array.new ≡ array.old) }
 {
+    let (array, run) = apply_to(heap, group, array, n, accesses);
+    let _ = array;
+    run
+}
+
+// Makes a store over an array, applies a list of calls to it, and gives the array back.
+fn apply_to<G: Group + Drop, A: CellArray, C: Request<A>>(
+    heap: Global,
+    group: G,
+    array: A,
+    n: usize,
+    calls: &[C],
+) -> (A, Result<Run, AllocError>)
+    ensures held { A.CellArray.held result.0 ≡ A.CellArray.held array }
+    ensures intact { A.CellArray.intact array → A.CellArray.intact result.0 }
+    ensures promise { IfOk result.1 (λ run. Promise (G.Group.meaning group) n (state_of (A.CellArray.cells array) blank) (map C.Request.call calls.now) run.answers.items (state_of (A.CellArray.cells result.0) run.ledger)) }
+    ensures refused { OnErr result.1 (result.0 ≡ array) }
+{
     let mut store = Store::new(group, array, n);
-    let applied = store.apply_accesses(heap, accesses);
+    let applied = store.apply(heap, calls);
     let Store {
         group: _group,
         array,
         n: _,
         ledger,
     } = store;
-    let _ = array;
-    Ok(Run {
-        answers: applied?,
-        ledger,
-    })
+    (array, applied.map(|answers| Run { answers, ledger }))
 }

@@ -1,7 +1,6 @@
-use Rattle.std.proofs.Common.{◌+◌, get_or, take, vec_items, sym, ap, ◌∙◌, subst, subst₂, arith}
-use Rattle.std.proofs.lemmas.List.{take_more, take_all}
+use Rattle.std.proofs.Common.{[], ◌∷◌, ◌++◌, ◌+◌, map, get_or, take, vec_items, sym, ap, ◌∙◌, subst, subst₂, arith}
+use Rattle.std.proofs.lemmas.List.{take_more, take_all, map_push}
 use Rattle.coset.specs.Code.{code}
-use Rattle.calls.specs.declared.call.Call.TheVariants.{Get}
 use Rattle.calls.specs.Calls.{state_of, Obeys}
 use Rattle.calls.specs.Runs.{Runs}
 use Rattle.calls.proofs.Running.{runs_more, runs_promise}
@@ -13,20 +12,21 @@ loop-call-preserved g c =
     let served = c.serve-answer.ensures in
     let first = state_of (g.A.CellArray.cells c.args.self.now.array) c.args.self.now.ledger in
     let before = state_of (g.A.CellArray.cells c.loop-call.self.array) c.loop-call.self.ledger in
-    let after = state_of (g.A.CellArray.cells c.serve-answer.new.self.array) c.serve-answer.new.self.ledger in
+    let after = state_of (g.A.CellArray.cells c.serve-answer.new.store.array) c.serve-answer.new.store.ledger in
     let co = code (g.G.Group.meaning c.args.self.now.group) c.args.self.now.n in
     let i = c.loop-call.call-index in
-    let call = get_or c.args.calls.now i (Get 0) in (
+    let call = g.C.Request.call in
+    let item = c.call-item.result in (
       served.held ∙ inv.0,
       (λ whole. served.intact (inv.1 whole)),
       served.group ∙ inv.2,
       served.n ∙ inv.3,
       c.push_reserved.ensures.len ∙ ap (λ k. k + 1) inv.4,
       (let room = inv.5 in let same = c.push_reserved.ensures.capacity in omega arith),
-      subst₂ (λ calls answers. Runs co first calls answers after) (sym (take_more c.args.calls.now i (Get 0) c.loop-call-test.true))
+      subst₂ (λ calls answers. Runs co first calls answers after) (sym (ap (map call) (take_more c.args.calls.now i item c.loop-call-test.true ∙ ap (λ x. take i c.args.calls.now ++ (x ∷ [])) (sym c.call-item.is)) ∙ map_push call (take i c.args.calls.now) item))
           (sym c.push_reserved.ensures.items)
-          (runs_more co first (take i c.args.calls.now) (vec_items c.loop-call.answers) before after call c.serve-answer.result inv.6
-          (subst₂ (λ gr n. Obeys (code (g.G.Group.meaning gr) n) call c.serve-answer.result before after) inv.2 inv.3 served.obeys)),
+          (runs_more co first (map call (take i c.args.calls.now)) (vec_items c.loop-call.answers) before after (call item) c.serve-answer.result inv.6
+          (subst₂ (λ gr n. Obeys (code (g.G.Group.meaning gr) n) (call item) c.serve-answer.result before after) inv.2 inv.3 served.obeys)),
     )
 
 pub returns : goal.returns
@@ -36,6 +36,7 @@ returns g c =
     let last = state_of (g.A.CellArray.cells c.loop-call.self.array) c.loop-call.self.ledger in
     let group = g.G.Group.meaning c.args.self.now.group in
     let n = c.args.self.now.n in
+    let call = g.C.Request.call in
     let all = take_all c.loop-call.call-index c.args.calls.now c.loop-call-test.false in
     record {
       held = inv.0;
@@ -43,7 +44,7 @@ returns g c =
       group = inv.2;
       n = inv.3;
       promise =
-          runs_promise group (g.met.G.Group.lawful c.args.self.now.group) n first c.args.calls.now (vec_items c.loop-call.answers) last
-          c.largest-largest.ensures (subst (λ calls. Runs (code group n) first calls (vec_items c.loop-call.answers) last) all inv.6);
+          runs_promise group (g.met.G.Group.lawful c.args.self.now.group) n first (map call c.args.calls.now) (vec_items c.loop-call.answers) last
+          c.largest-largest.ensures (subst (λ calls. Runs (code group n) first (map call calls) (vec_items c.loop-call.answers) last) all inv.6);
       refused = tt;
     }

@@ -1,4 +1,4 @@
-use Rattle.std.proofs.Common.{◌≡◌, ◌≤◌, length, take, vec_items, vec_len, vec_capacity}
+use Rattle.std.proofs.Common.{◌≡◌, ◌≤◌, map, length, take, vec_items, vec_len, vec_capacity}
 use Rattle.coset.specs.Code.{code}
 use Rattle.calls.specs.Calls.{state_of}
 use Rattle.calls.specs.Runs.{Runs}
@@ -13,4 +13,4 @@ invariant-loop-call g l =
     × (vec_len l.answers ≡ l.call-index)
     × (length l.calls ≤ vec_capacity l.answers)
     × Runs (code (g.G.Group.meaning l.initial.self.group) l.initial.self.n) (state_of (g.A.CellArray.cells l.initial.self.array) l.initial.self.ledger)
-    (take l.call-index l.calls) (vec_items l.answers) (state_of (g.A.CellArray.cells l.self.array) l.self.ledger)
+    (map g.C.Request.call (take l.call-index l.calls)) (vec_items l.answers) (state_of (g.A.CellArray.cells l.self.array) l.self.ledger)
