@@ -1,5 +1,5 @@
 -- From the steps of a renewal to the rules that it obeys. Assumes nothing.
-use Rattle.std.proofs.Common.{◌≡◌, ℕ, ◌+◌, ◌*◌, ◌%◌, ◌<◌, ◌≤◌, Bool, true, false, cond, not, eqb, ◌⊎◌, List, [], get_or, is_some, Some, None, Ok, Err, Option, Result, sym, refl, ap, ◌∙◌, subst, ap₂, inl, inr, arith}
+use Rattle.std.proofs.Common.{◌≡◌, ℕ, ◌+◌, ◌*◌, ◌%◌, ◌<◌, ◌≤◌, Bool, true, false, cond, eqb, ◌⊎◌, List, [], get_or, is_some, Some, None, Ok, Err, Option, Result, sym, refl, ap, ◌∙◌, subst, ap₂, inl, inr, arith}
 use Rattle.std.proofs.lemmas.Bool.{cases_eq, eq-eqb, ne_eqb, both_ways}
 use Rattle.group.specs.Group.{step}
 use Rattle.cells.specs.Cells.{Cells, Cell}
@@ -19,10 +19,10 @@ use Rattle.calls.specs.Ledger.{raised}
 use Rattle.calls.specs.Records.{makes, per_page, records, page_of, free, value}
 use Rattle.calls.specs.Calls.{state_of, Renewed, renewed_value, rows, Obeys}
 use Rattle.calls.proofs.Geometry.{There, there, number_of, page_back, place_back}
-use Rattle.store.specs.declared.place.Place.{Place}
-use Rattle.store.specs.Steps.{Places, cells_from, nth_place, target, PlansOfPage, PageWritten}
+use Rattle.store.specs.declared.place.Found.{Found}
+use Rattle.store.specs.Steps.{Known, cells_from, nth_place, target, PlansOfPage, PageWritten}
 use Rattle.store.proofs.Setting.{shaped_then}
-use Rattle.store.proofs.Serving.{unreachable_free, read_value, read_free}
+use Rattle.store.proofs.Serving.{unreachable_free, open_cells, open_free}
 
 -- what the planner answered, by the test whether it found a plan
 pub found_plan : (c : Code) (f : Cellset) (d : ℕ) (o : Option CellSet) → is_some o ≡ true → Plans c f d o → Reachable c f d
@@ -63,18 +63,14 @@ records_to_page c m k h = go (makes c m) h
     go true lt = refl
     go false lt = absurd (omega arith)
 
-module _ (c : Code) (m : Cells) (k : ℕ) (at : Place) (found : Places c m k (Ok at)) (read : Cellset) (agrees : (i : ℕ) → i < c.cells → read i ≡ cells_from m at i)
-    (x old : ℕ) (element : x < c.group.order) (sum : old ≡ sum_of c read) where
-  abbrev open_cells : Cellset
-  open_cells i = not (read i)
-
-  old_is : old ≡ value c m k
-  old_is = sum ∙ read_value c m k at found read agrees
+module _ (c : Code) (m : Cells) (k : ℕ) (found : Found) (known : Known c m k found) (x : ℕ) (element : x < c.group.order) where
+  abbrev opened : Cellset
+  opened = open_cells c m k found known
 
   -- the put would be accepted
-  pub renew_fits : Reachable c open_cells (step c.group old x) → Refused (rows c m (Renew k x)) 43
+  pub renew_fits : Reachable c opened (step c.group found.value x) → Refused (rows c m (Renew k x)) 43
   renew_fits r =
-      let there_is = found.0 in
+      let there_is = known.place.0 in
       inr (
         λ h. omega arith,
         inr (
@@ -83,8 +79,8 @@ module _ (c : Code) (m : Cells) (k : ℕ) (at : Place) (found : Places c m k (Ok
             (
               r.0,
               record {
-                within = λ i h e. sym (read_free c m k at found read agrees i h) ∙ r.1.within i h e;
-                sums = r.1.sums ∙ ap (λ v. step c.group v x) old_is;
+                within = λ i h e. sym (open_free c m k found known i h) ∙ r.1.within i h e;
+                sums = r.1.sums ∙ ap (λ v. step c.group v x) known.value;
               },
             ),
             refl,
@@ -92,30 +88,30 @@ module _ (c : Code) (m : Cells) (k : ℕ) (at : Place) (found : Places c m k (Ok
         ),
       )
 
-  module _ (none : Unreachable c open_cells (step c.group old x)) where
+  module _ (none : Unreachable c opened (step c.group found.value x)) where
     no_put : Reachable c (free c m k) (step c.group (value c m k) x) → ⊥
     no_put r =
-        unreachable_free c open_cells (free c m k) (step c.group (value c m k) x) (read_free c m k at found read agrees)
-        (subst (λ v. Unreachable c open_cells (step c.group v x)) old_is none) r.0 r.1
+        unreachable_free c opened (free c m k) (step c.group (value c m k) x) (open_free c m k found known)
+        (subst (λ v. Unreachable c opened (step c.group v x)) known.value none) r.0 r.1
 
     -- the value is out of reach from empty
     pub renew_unreached : Unreachable c every x → Refused (rows c m (Renew k x)) 44
     renew_unreached far =
-        let there_is = found.0 in
+        let there_is = known.place.0 in
         inr (λ h. omega arith, inr (λ h. omega arith, inr (no_put, inl (far, refl))))
 
-    module _ (plans : List CellSet) (planned : PlansOfPage c m at.page (k % per_page c m) x (per_page c m) plans) where
+    module _ (plans : List CellSet) (planned : PlansOfPage c m (page_of c m k) (k % per_page c m) x (per_page c m) plans) where
       abbrev d₀ : CellSet
       d₀ = record { members = [] }
 
       t : There c m k
-      t = there c m k found.0
+      t = there c m k known.place.0
 
       -- the record of each place, by its number
-      target_is : (r : ℕ) → r < per_page c m → target c m at.page (k % per_page c m) x r ≡ renewed_value c m k x (page_of c m k * per_page c m + r)
+      target_is : (r : ℕ) → r < per_page c m → target c m (page_of c m k) (k % per_page c m) x r ≡ renewed_value c m k x (page_of c m k * per_page c m + r)
       target_is r h =
           ap₂ (λ b v. cond b x v) (same_place (cases_eq r (k % per_page c m)))
-          (ap₂ (λ p q. sum_of c (λ i. m.set p (q * c.cells + i))) (found.1 ∙ sym (page_back c m (page_of c m k) r h)) (sym (place_back c m (page_of c m k) r h)))
+          (ap₂ (λ p q. sum_of c (λ i. m.set p (q * c.cells + i))) (sym (page_back c m (page_of c m k) r h)) (sym (place_back c m (page_of c m k) r h)))
         where
           same_place : ((r ≡ k % per_page c m) ⊎ (r ≡ k % per_page c m → ⊥)) → eqb r (k % per_page c m) ≡ eqb (page_of c m k * per_page c m + r) k
           same_place (inl e) =
@@ -133,29 +129,29 @@ module _ (c : Code) (m : Cells) (k : ℕ) (at : Place) (found : Places c m k (Ok
           let r = k % per_page c m in
           let p = planned (k % per_page c m) d₀ t.place in
           far (members_of (get_or plans (k % per_page c m) d₀))
-          (subst (λ b. Plan c every (cond b x (sum_of c (cells_from m (nth_place c at.page (k % per_page c m))))) (members_of (get_or plans (k % per_page c m) d₀)))
+          (subst (λ b. Plan c every (cond b x (sum_of c (cells_from m (nth_place c (page_of c m k) (k % per_page c m))))) (members_of (get_or plans (k % per_page c m) d₀)))
           (eq-eqb (k % per_page c m) (k % per_page c m) refl) p).reaches
 
       -- the page is worn
-      pub renew_worn : m.limit ≤ m.wear at.page → Refused (rows c m (Renew k x)) 22
+      pub renew_worn : m.limit ≤ m.wear found.place.page → Refused (rows c m (Renew k x)) 22
       renew_worn worn =
-          let there_is = found.0 in
-          inr (λ h. omega arith, inr (λ h. omega arith, inr (no_put, inr (within_reach, inl (subst (λ p. m.limit ≤ m.wear p) found.1 worn, refl)))))
+          let there_is = known.place.0 in
+          inr (λ h. omega arith, inr (λ h. omega arith, inr (no_put, inr (within_reach, inl (subst (λ p. m.limit ≤ m.wear p) known.place.1 worn, refl)))))
 
       -- the page was erased and written
       pub renew_served :
-          (m' m'' : Cells) (l l' : Ledger) (marked : ℕ) → (m.limit ≤ m.wear at.page → ⊥) → Erased at.page m m' →
-          PageWritten c.cells at.page (per_page c m) plans m' m'' marked → l'.changes ≡ l.changes → l'.renewals ≡ raised 1 l.renewals →
+          (m' m'' : Cells) (l l' : Ledger) (marked : ℕ) → (m.limit ≤ m.wear found.place.page → ⊥) → Erased found.place.page m m' →
+          PageWritten c.cells found.place.page (per_page c m) plans m' m'' marked → l'.changes ≡ l.changes → l'.renewals ≡ raised 1 l.renewals →
           l'.marked ≡ raised marked l.marked → Obeys c (Renew k x) (Ok marked) (state_of m l) (state_of m'' l')
       renew_served m' m'' l l' marked fresh erased written a b d =
-          let there_is = found.0 in (
-            (λ h. omega arith, (λ h. omega arith, (no_put, (within_reach, ((λ worn. fresh (subst (λ p. m.limit ≤ m.wear p) (sym found.1) worn)), tt))))),
+          let there_is = known.place.0 in (
+            (λ h. omega arith, (λ h. omega arith, (no_put, (within_reach, ((λ worn. fresh (subst (λ p. m.limit ≤ m.wear p) (sym known.place.1) worn)), tt))))),
             renewed,
             λ i. record { changes = a i; renewals = b i; marked = d i },
           )
         where
-          page_inside : at.page < m'.pages
-          page_inside = rw (erased.shape.pages, found.1) t.page
+          page_inside : found.place.page < m'.pages
+          page_inside = rw (erased.shape.pages, known.place.1) t.page
 
           cell' : (p j : ℕ) → Cell m p j → Cell m' p j
           cell' p j cell = record { page = rw erased.shape.pages cell.page; cell = rw erased.shape.width cell.cell }
@@ -166,11 +162,11 @@ module _ (c : Code) (m : Cells) (k : ℕ) (at : Place) (found : Places c m k (Ok
                 shape = shaped_then m m' m'' erased.shape written.shape;
                 plans = λ r. members_of (get_or plans r d₀);
                 planned = all_planned;
-                written = λ r i h lt. ap (λ p. m''.set p (r * c.cells + i)) (sym found.1) ∙ written.written r i d₀ h lt;
-                beyond = λ j lo hi. ap (λ p. m''.set p j) (sym found.1) ∙ written.beyond j lo (rw erased.shape.width hi);
+                written = λ r i h lt. ap (λ p. m''.set p (r * c.cells + i)) (sym known.place.1) ∙ written.written r i d₀ h lt;
+                beyond = λ j lo hi. ap (λ p. m''.set p j) (sym known.place.1) ∙ written.beyond j lo (rw erased.shape.width hi);
                 others = λ p j cell apart.
-                    written.others p j (cell' p j cell) (λ e. apart (e ∙ found.1)) ∙ erased.others p j cell (λ e. apart (e ∙ found.1));
-                worn = subst (λ p. m''.wear p ≡ m.wear p + 1) found.1 (written.wear at.page page_inside ∙ erased.worn);
-                unworn = λ p h apart. written.wear p (rw erased.shape.pages h) ∙ erased.unworn p h (λ e. apart (e ∙ found.1));
+                    written.others p j (cell' p j cell) (λ e. apart (e ∙ known.place.1)) ∙ erased.others p j cell (λ e. apart (e ∙ known.place.1));
+                worn = subst (λ p. m''.wear p ≡ m.wear p + 1) known.place.1 (written.wear found.place.page page_inside ∙ erased.worn);
+                unworn = λ p h apart. written.wear p (rw erased.shape.pages h) ∙ erased.unworn p h (λ e. apart (e ∙ known.place.1));
                 counted = written.counted d₀;
               }

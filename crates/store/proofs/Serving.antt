@@ -4,14 +4,16 @@ use Rattle.group.specs.Group.{step}
 use Rattle.cells.specs.Rows.{Refused}
 use Rattle.cells.specs.Cells.{Cells}
 use Rattle.cells.specs.Sets.{Cellset}
+use Rattle.coset.specs.CellSets.{members_of}
 use Rattle.store.specs.declared.place.Place.{Place}
+use Rattle.store.specs.declared.place.Found.{Found}
 use Rattle.coset.specs.Code.{Code, sum_of, size_of, Unreachable, Plan}
 use Rattle.calls.specs.Records.{per_page, page_of, first_of, held, free, value}
 use Rattle.calls.specs.declared.call.Call.TheVariants.{Put}
 use Rattle.calls.specs.declared.ledger.Ledger.{Ledger}
 use Rattle.calls.specs.Ledger.{raised}
 use Rattle.calls.specs.Calls.{state_of, Sets, rows, Obeys}
-use Rattle.store.specs.Steps.{Places, Inside, cells_from, SetsCells}
+use Rattle.store.specs.Steps.{Known, Places, Inside, cells_from, SetsCells}
 use Rattle.coset.proofs.Sums.{Agree, sum_agree}
 use Rattle.calls.proofs.Geometry.{There, there, place_within, page_same, place_same}
 
@@ -55,7 +57,7 @@ module _ (c : Code) (m : Cells) (k : ℕ) (at : Place) (page : at.page ≡ page_
         wear = sets.wear;
       }
 
--- What is known once a record was found and read.
+-- What is known once a record was found, and then once it was read.
 module _ (c : Code) (m : Cells) (k : ℕ) (at : Place) (found : Places c m k (Ok at)) where
   pub found_inside : Inside m c.cells at
   found_inside = inside c m k at found.1 found.2 (there c m k found.0)
@@ -64,41 +66,48 @@ module _ (c : Code) (m : Cells) (k : ℕ) (at : Place) (found : Places c m k (Ok
     pub read_value : sum_of c read ≡ value c m k
     read_value = sum_is c m k at found.1 found.2 read agrees
 
-    pub read_free : Agree (λ i. not (read i)) (free c m k) c.cells
-    read_free i h = ap not (agrees i h ∙ cells_are c m k at found.1 found.2 i)
+    pub read_held : (i : ℕ) → i < c.cells → read i ≡ held c m k i
+    read_held i h = agrees i h ∙ cells_are c m k at found.1 found.2 i
 
-    module _ (x old : ℕ) (element : x < c.group.order) (sum : old ≡ sum_of c read) where
-      old_is : old ≡ value c m k
-      old_is = sum ∙ read_value
+module _ (c : Code) (m : Cells) (k : ℕ) (found : Found) (known : Known c m k found) where
+  pub known_inside : Inside m c.cells found.place
+  known_inside = found_inside c m k found.place known.place
 
-      -- no set of the cells that were not read as set
-      pub put_full : Unreachable c (λ i. not (read i)) (step c.group old x) → Refused (rows c m (Put k x)) 42
-      put_full none =
-          let there_is = found.0 in
+  abbrev pub open_cells : Cellset
+  open_cells i = not (members_of found.held i)
+
+  pub open_free : Agree open_cells (free c m k) c.cells
+  open_free i h = ap not (known.held i h)
+
+  module _ (x : ℕ) (element : x < c.group.order) where
+    -- no set of the cells that are not set
+    pub put_full : Unreachable c open_cells (step c.group found.value x) → Refused (rows c m (Put k x)) 42
+    put_full none =
+        let there_is = known.place.0 in
+        inr (
+          λ h. omega arith,
           inr (
             λ h. omega arith,
-            inr (
-              λ h. omega arith,
-              inl (unreachable_free c (λ i. not (read i)) (free c m k) _ read_free (subst (λ v. Unreachable c (λ i. not (read i)) (step c.group v x)) old_is none), refl),
-            ),
-          )
+            inl (unreachable_free c open_cells (free c m k) _ open_free (subst (λ v. Unreachable c open_cells (step c.group v x)) known.value none), refl),
+          ),
+        )
 
-      -- a plan that was carried out
-      pub put_served :
-          (s : Cellset) (m' : Cells) (l l' : Ledger) (marked : ℕ) → Plan c (λ i. not (read i)) (step c.group old x) s → SetsCells c.cells at s m m' →
-          marked ≡ size_of c s → l'.changes ≡ raised (cond (not (eqb old x)) 1 0) l.changes → l'.renewals ≡ l.renewals →
-          l'.marked ≡ raised marked l.marked → Obeys c (Put k x) (Ok marked) (state_of m l) (state_of m' l')
-      put_served s m' l l' marked plan sets counted a b d =
-          let there_is = found.0 in
-          let p = plan_free c (λ i. not (read i)) (free c m k) (step c.group (value c m k) x) s read_free (subst (λ v. Plan c (λ i. not (read i)) (step c.group v x) s) old_is plan) in (
-            (λ h. omega arith, (λ h. omega arith, ((λ full. full s p.reaches), tt))),
-            (s, p, sets_are c m k at found.1 found.2 s m' sets, counted),
-            λ i. record { changes = changes_are i; renewals = b i; marked = d i },
-          )
-        where
-          turned : (t : Bool) → ◌≡◌ {A = ℕ} (cond (not t) 1 0) (cond t 0 1)
-          turned true = refl
-          turned false = refl
+    -- a plan that was carried out
+    pub put_served :
+        (s : Cellset) (m' : Cells) (l l' : Ledger) (marked : ℕ) → Plan c open_cells (step c.group found.value x) s → SetsCells c.cells found.place s m m' →
+        marked ≡ size_of c s → l'.changes ≡ raised (cond (not (eqb found.value x)) 1 0) l.changes → l'.renewals ≡ l.renewals →
+        l'.marked ≡ raised marked l.marked → Obeys c (Put k x) (Ok marked) (state_of m l) (state_of m' l')
+    put_served s m' l l' marked plan sets counted a b d =
+        let there_is = known.place.0 in
+        let p = plan_free c open_cells (free c m k) (step c.group (value c m k) x) s open_free (subst (λ v. Plan c open_cells (step c.group v x) s) known.value plan) in (
+          (λ h. omega arith, (λ h. omega arith, ((λ full. full s p.reaches), tt))),
+          (s, p, sets_are c m k found.place known.place.1 known.place.2 s m' sets, counted),
+          λ i. record { changes = changes_are i; renewals = b i; marked = d i },
+        )
+      where
+        turned : (t : Bool) → ◌≡◌ {A = ℕ} (cond (not t) 1 0) (cond t 0 1)
+        turned true = refl
+        turned false = refl
 
-          changes_are : l'.changes ≡ raised (cond (eqb (value c m k) x) 0 1) l.changes
-          changes_are = a ∙ ap (λ j. raised j l.changes) (turned (eqb old x) ∙ ap (λ v. cond (eqb v x) 0 1) old_is)
+        changes_are : l'.changes ≡ raised (cond (eqb (value c m k) x) 0 1) l.changes
+        changes_are = a ∙ ap (λ j. raised j l.changes) (turned (eqb found.value x) ∙ ap (λ v. cond (eqb v x) 0 1) known.value)

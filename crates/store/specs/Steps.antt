@@ -5,17 +5,29 @@ use Rattle.cells.specs.Sets.{Cellset}
 use Rattle.calls.specs.declared.fault.StoreFault.{StoreFault}
 use Rattle.calls.specs.declared.fault.StoreFault.TheVariants.{NoRecord}
 use Rattle.store.specs.declared.place.Place.{Place}
+use Rattle.store.specs.declared.place.Found.{Found}
 use Rattle.store.specs.declared.place.PagePlans.{PagePlans}
 use Rattle.coset.specs.Code.{Code, every, sum_of, Unreachable, Plan}
 use Rattle.coset.specs.CellSets.{members_of}
 use Rattle.coset.specs.declared.cellset.CellSet.{CellSet}
 use Rattle.calls.specs.Calls.{sizes}
-use Rattle.calls.specs.Records.{records, per_page, page_of, first_of}
+use Rattle.calls.specs.Records.{records, per_page, page_of, first_of, held, value}
 
 -- where record k lies, or that there is no such record
 abbrev pub Places : Code → Cells → ℕ → Result Place StoreFault → Type 0
 Places c m k (Ok at) = (k < records c m) × (at.page ≡ page_of c m k) × (at.first ≡ first_of c m k)
 Places c m k (Err f) = (records c m ≤ k) × (f ≡ NoRecord k)
+
+-- record k was found, with its set cells and its value
+pub record Known (c : Code) (m : Cells) (k : ℕ) (found : Found) : Type 0 where
+  pub place : Places c m k (Ok found.place)
+  pub held : (i : ℕ) → i < c.cells → members_of found.held i ≡ held c m k i
+  pub value : found.value ≡ value c m k
+
+-- what is found of record k, or that there is no such record
+abbrev pub Finds : Code → Cells → ℕ → Result Found StoreFault → Type 0
+Finds c m k (Ok found) = Known c m k found
+Finds c m k (Err f) = (records c m ≤ k) × (f ≡ NoRecord k)
 
 -- n cells from a place on are cells of the array
 pub record Inside (m : Cells) (n : ℕ) (at : Place) : Type 0 where
@@ -52,7 +64,7 @@ PlansOfPage c m page named x b plans =
 -- such plans, or the news that x is out of reach from empty
 abbrev pub PlansPage : Code → Cells → ℕ → ℕ → ℕ → Option PagePlans → Type 0
 PlansPage c m page named x None = Unreachable c every x
-PlansPage c m page named x (Some ps) = PlansOfPage c m page named x (per_page c m) ps.plans
+PlansPage c m page named x (Some ps) = (ps.records ≡ per_page c m) × PlansOfPage c m page named x (per_page c m) ps.plans
 
 -- A page with no cell set was written by the plans of its first b records.
 pub record PageWritten (n page b : ℕ) (plans : List CellSet) (before after : Cells) (marked : ℕ) : Type 0 where

@@ -5,7 +5,7 @@ ghost use Rattle.store.specs.Making.{making_number, Makes};
 
 use cells::array::CellArray;
 use coset::cellset::MAX_CELLS;
-use group::interface::{Group, UNUSABLE};
+use group::interface::Group;
 
 #[derive(Clone, Copy, PartialEq, Debug)]
 pub enum MakingFault {
@@ -37,7 +37,7 @@ pub fn check_making<G: Group, A: CellArray>(
 ) -> Result<(), MakingFault>
     ensures { Makes (G.Group.meaning group.now) (A.CellArray.cells array.now) n result }
 {
-    if group.order() == UNUSABLE {
+    if !group.is_usable() {
         return Err(MakingFault::Unusable);
     }
     if n == 0 || n > MAX_CELLS {

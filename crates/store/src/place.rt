@@ -1,6 +1,11 @@
-// Where a record lies, and the plans of a whole page.
+// Where a record lies, what was found there, and the plans of a whole page.
 // The cells of a record are n cells in a row.
+ghost use Rattle.std.specs.Prelude.{◌≤◌};
+
 use coset::cellset::CellSet;
+
+// the most records to a page
+pub(crate) const MAX_PER_PAGE: usize = 64;
 
 // A page, and the first cell of a record there.
 #[derive(Clone, Copy)]
@@ -9,8 +14,18 @@ pub(crate) struct Place {
     pub(crate) first: usize,
 }
 
-// A plan for each record of a page, of which there are at most 64.
+// A record that there is: where it lies, which of its cells are set, and the value that it holds.
+#[derive(Clone, Copy)]
+pub(crate) struct Found {
+    pub(crate) place: Place,
+    pub(crate) held: CellSet,
+    pub(crate) value: u32,
+}
+
+// A plan for each record of a page.
 #[derive(Clone, Copy)]
 pub(crate) struct PagePlans {
-    pub(crate) plans: [CellSet; 64],
+    pub(crate) plans: [CellSet; MAX_PER_PAGE],
+    pub(crate) records: usize,
+    ghost few: { records ≤ 64 },
 }

@@ -1,37 +1,64 @@
-// The cells of one record: reading them as a set, and setting some of them.
-// Each works on any cell array, at a place that lies within it.
+// The cells of one record: finding and reading them, and setting some of them.
+// Each works on any cell array.
 ghost use Rattle.std.specs.Prelude.{◌≡◌, ℕ, ◌<◌};
 ghost use Rattle.cells.specs.Device.{Marked};
 ghost use Rattle.cells.specs.Sets.{size_below};
 ghost use Rattle.coset.specs.CellSets.{members_of};
-ghost use Rattle.store.specs.Steps.{Inside, cells_from, SetsCells};
+ghost use Rattle.coset.specs.Code.{code, sum_of};
+ghost use Rattle.store.specs.Steps.{Inside, Places, Finds, cells_from, SetsCells};
 
-use crate::place::Place;
+use crate::place::{Found, Place};
+use crate::store::Store;
+use calls::fault::StoreFault;
 use cells::array::CellArray;
 use coset::cellset::CellSet;
+use coset::labels::label_sum;
+use group::interface::Group;
 
-// The set cells.
-pub(crate) fn read<A: CellArray>(array: &A, n: usize, at: Place) -> CellSet
-    requires { Inside (A.CellArray.cells array.now) n at }
-    ensures { (i : ℕ) → i < n → members_of result i ≡ cells_from (A.CellArray.cells array.now) at i }
-{
-    let mut set = CellSet::empty();
-    for cell in 0..n {
-        if is_set(array, at.page, at.first + cell) {
-            set.insert(cell);
-        }
+impl<G: Group, A: CellArray> Store<G, A> {
+    // The record of a number, with its set cells and its value.
+    pub(crate) fn find(&self, record: usize) -> Result<Found, StoreFault>
+        ensures { Finds (code (G.Group.meaning self.now.group) self.now.n) (A.CellArray.cells self.now.array) «record» result }
+    {
+        let place = self.place(record)?;
+        let held = self.read(place);
+        let value = label_sum(&self.group, self.n, &held);
+        Ok(Found { place, held, value })
     }
-    set
-}
 
-fn is_set<A: CellArray>(array: &A, page: usize, cell: usize) -> bool
-    requires page_bound { page < (A.CellArray.cells array.now).pages }
-    requires cell_bound { cell < (A.CellArray.cells array.now).width }
-    ensures { result ≡ (A.CellArray.cells array.now).set page cell }
-{
-    match array.look(page, cell) {
-        Ok(set) => set,
-        Err(_) => unreachable(),
+    pub(crate) fn place(&self, record: usize) -> Result<Place, StoreFault>
+        ensures { Places (code (G.Group.meaning self.now.group) self.now.n) (A.CellArray.cells self.now.array) «record» result }
+    {
+        if record >= self.records() {
+            return Err(StoreFault::NoRecord { record });
+        }
+        let per_page = self.per_page();
+        Ok(Place {
+            page: record / per_page,
+            first: record % per_page * self.n,
+        })
+    }
+
+    // The set cells of a record.
+    fn read(&self, at: Place) -> CellSet
+        requires { Inside (A.CellArray.cells self.now.array) self.now.n at }
+        ensures { (i : ℕ) → i < self.now.n → members_of result i ≡ cells_from (A.CellArray.cells self.now.array) at i }
+    {
+        let mut set = CellSet::empty();
+        for cell in 0..self.n {
+            if self.array.is_set(at.page, at.first + cell) {
+                set.insert(cell);
+            }
+        }
+        set
+    }
+
+    // The value of a record.
+    pub(crate) fn value_at(&self, at: Place) -> u32
+        requires { Inside (A.CellArray.cells self.now.array) self.now.n at }
+        ensures { result ≡ sum_of (code (G.Group.meaning self.now.group) self.now.n) (cells_from (A.CellArray.cells self.now.array) at) }
+    {
+        label_sum(&self.group, self.n, &self.read(at))
     }
 }
 
@@ -60,8 +87,5 @@ fn set_cell<A: CellArray>(array: &mut A, page: usize, cell: usize)
     ensures intact { A.CellArray.intact array.old → A.CellArray.intact array.new }
     ensures marked { Marked page cell (A.CellArray.cells array.old) (A.CellArray.cells array.new) }
 {
-    match array.mark(page, cell) {
-        Ok(()) => {}
-        Err(_) => unreachable(),
-    }
+    array.mark(page, cell).unwrap();
 }

@@ -9,20 +9,16 @@ ghost use Rattle.coset.specs.Plans.{Plans};
 ghost use Rattle.coset.specs.Code.{code};
 ghost use Rattle.calls.specs.Ledger.{blank};
 ghost use Rattle.calls.specs.Records.{makes, per_page, records};
-ghost use Rattle.store.specs.Steps.{Places};
 
-use crate::place::Place;
+use crate::making::check_making;
+use crate::place::{Found, MAX_PER_PAGE};
 use crate::{page, record};
 use calls::fault::{Locate, StoreFault};
 use calls::ledger::Ledger;
 use cells::array::{CellArray, Erasable};
-use coset::cellset::{CellSet, MAX_CELLS};
-use coset::labels::label_sum;
+use coset::cellset::CellSet;
 use coset::planner::plan;
-use group::interface::{Group, UNUSABLE};
-
-// the most records to a page
-const MAX_PER_PAGE: usize = 64;
+use group::interface::Group;
 
 #[derive(Drop)]
 pub struct Store<G, A> {
@@ -40,16 +36,11 @@ impl<G: Group, A: CellArray> Store<G, A> {
         ensures n { result.n ≡ n }
         ensures ledger { result.ledger ≡ blank }
     {
-        let ledger = Ledger {
-            changes: 0,
-            renewals: 0,
-            marked: 0,
-        };
         Store {
             group,
             array,
             n,
-            ledger,
+            ledger: Ledger::default(),
         }
     }
 
@@ -57,11 +48,10 @@ impl<G: Group, A: CellArray> Store<G, A> {
     pub(crate) fn per_page(&self) -> usize
         ensures { result ≡ (if makes (code (G.Group.meaning self.now.group) self.now.n) (A.CellArray.cells self.now.array) then per_page (code (G.Group.meaning self.now.group) self.now.n) (A.CellArray.cells self.now.array) else 0) }
     {
-        let width = self.array.width();
-        if self.group.order() == UNUSABLE || self.n == 0 || self.n > MAX_CELLS || width < self.n {
-            return 0;
+        match check_making(&self.group, &self.array, self.n) {
+            Ok(()) => (self.array.width() / self.n).min(MAX_PER_PAGE),
+            Err(_) => 0,
         }
-        (width / self.n).min(MAX_PER_PAGE)
     }
 
     pub fn records(&self) -> usize
@@ -70,43 +60,27 @@ impl<G: Group, A: CellArray> Store<G, A> {
         self.array.pages() * self.per_page()
     }
 
-    pub(crate) fn place(&self, record: usize) -> Result<Place, StoreFault>
-        ensures { Places (code (G.Group.meaning self.now.group) self.now.n) (A.CellArray.cells self.now.array) «record» result }
-    {
-        if record >= self.records() {
-            return Err(StoreFault::NoRecord { record });
-        }
-        let per_page = self.per_page();
-        Ok(Place {
-            page: record / per_page,
-            first: record % per_page * self.n,
-        })
-    }
-
-    // The fewest of the cells that are not held, for the step from the value to the target.
-    fn plan_step(&self, held: &CellSet, value: u32, target: u32) -> Option<CellSet>
+    // The fewest cells that are not set and take a record to a value.
+    fn plan_to(&self, found: &Found, value: u32) -> Option<CellSet>
         requires { self.now.n ≤ 63 }
-        ensures { Plans (code (G.Group.meaning self.now.group) self.now.n) (λ i. not (members_of held.now i)) (step (G.Group.meaning self.now.group) value target) result }
+        ensures { Plans (code (G.Group.meaning self.now.group) self.now.n) (λ i. not (members_of found.now.held i)) (step (G.Group.meaning self.now.group) found.now.value value) result }
     {
-        let step = self.group.sum(target, self.group.opposite(value));
-        plan(&self.group, self.n, &held.complement(), step)
+        let step = self.group.step(found.value, value);
+        plan(&self.group, self.n, &found.held.complement(), step)
     }
 
     // What was counted since the making.
     pub fn ledger(&self) -> Ledger
         ensures { result ≡ self.now.ledger }
     {
-        let Store { ledger, .. } = self;
-        *ledger
+        self.ledger
     }
 
     // The value of a record.
     pub fn get(&self, record: usize) -> Result<u32, StoreFault>
         ensures { Obeys (code (G.Group.meaning self.now.group) self.now.n) (Get «record») result (state_of (A.CellArray.cells self.now.array) self.now.ledger) (state_of (A.CellArray.cells self.now.array) self.now.ledger) }
     {
-        let at = self.place(record)?;
-        let held = record::read(&self.array, self.n, at);
-        Ok(label_sum(&self.group, self.n, &held))
+        Ok(self.find(record)?.value)
     }
 
     // Sets the fewest cells that take a record to a value, and answers how many.
@@ -117,17 +91,15 @@ impl<G: Group, A: CellArray> Store<G, A> {
         ensures n { self.new.n ≡ self.old.n }
         ensures obeys { Obeys (code (G.Group.meaning self.old.group) self.old.n) (Put «record» value) result (state_of (A.CellArray.cells self.old.array) self.old.ledger) (state_of (A.CellArray.cells self.new.array) self.new.ledger) }
     {
-        let at = self.place(record)?;
+        let found = self.find(record)?;
         if value >= self.group.order() {
             return Err(StoreFault::NoValue { record });
         }
-        let held = record::read(&self.array, self.n, at);
-        let old = label_sum(&self.group, self.n, &held);
-        let Some(plan) = self.plan_step(&held, old, value) else {
+        let Some(plan) = self.plan_to(&found, value) else {
             return Err(StoreFault::Full { record });
         };
-        let marked = record::write(&mut self.array, self.n, at, &plan);
-        self.ledger.note_put(old != value, marked);
+        let marked = record::write(&mut self.array, self.n, found.place, &plan);
+        self.ledger.note_put(found.value != value, marked);
         Ok(marked)
     }
 }
@@ -141,28 +113,19 @@ impl<G: Group, A: Erasable> Store<G, A> {
         ensures n { self.new.n ≡ self.old.n }
         ensures obeys { Obeys (code (G.Group.meaning self.old.group) self.old.n) (Renew «record» value) result (state_of (A.CellArray.cells self.old.array) self.old.ledger) (state_of (A.CellArray.cells self.new.array) self.new.ledger) }
     {
-        let at = self.place(record)?;
+        let found = self.find(record)?;
         if value >= self.group.order() {
             return Err(StoreFault::NoValue { record });
         }
-        let held = record::read(&self.array, self.n, at);
-        let old = label_sum(&self.group, self.n, &held);
-        if self.plan_step(&held, old, value).is_some() {
+        if self.plan_to(&found, value).is_some() {
             return Err(StoreFault::Fits { record });
         }
-        let per_page = self.per_page();
-        let Some(plans) = page::plan_page(
-            &self.group,
-            &self.array,
-            self.n,
-            at.page,
-            record % per_page,
-            value,
-        ) else {
+        let Some(plans) = self.plan_page(record, value) else {
             return Err(StoreFault::Unreached { record });
         };
-        self.array.erase(at.page).located_at(record)?;
-        let marked = page::write_page(&mut self.array, self.n, at.page, per_page, &plans);
+        let page = found.place.page;
+        self.array.erase(page).located_at(record)?;
+        let marked = page::write_page(&mut self.array, self.n, page, &plans);
         self.ledger.note_renewal(marked);
         Ok(marked)
     }

@@ -13,7 +13,7 @@ loop-r-init g c =
 pub write-marked-requires : goal.write-marked-requires
 write-marked-requires g c =
     let shape = c.loop-r.invariant.2.shape in
-    let room = rows_within c.args.n c.loop-r.r c.args.per_page (g.A.CellArray.cells c.args.array.now).width c.loop-r-test.true c.requires.fits in
+    let room = rows_within c.args.n c.loop-r.r c.args.plans.now.records (g.A.CellArray.cells c.args.array.now).width c.loop-r-test.true c.requires.fits in
     record { page = rw shape.pages c.requires.page; cells = rw shape.width room; few = c.requires.few }
 
 pub overflow_add-marked : goal.overflow_add-marked
@@ -36,6 +36,6 @@ loop-r-preserved g c =
       page_step c.args.n c.args.page c.args.plans.now.plans (g.A.CellArray.cells c.args.array.now) c.loop-r.r c.loop-r.marked
           c.write-marked.result _ (g.A.CellArray.cells c.loop-r.array) (g.A.CellArray.cells c.write-marked.new.array) (omega arith)
           (λ d. get_or_default c.args.plans.now.plans c.loop-r.r d (record { members = [] }) (omega arith))
-          (next_within c.args.n c.loop-r.r c.args.per_page (g.A.CellArray.cells c.args.array.now).width c.loop-r-test.true c.requires.fits) c.requires.page
+          (next_within c.args.n c.loop-r.r c.args.plans.now.records (g.A.CellArray.cells c.args.array.now).width c.loop-r-test.true c.requires.fits) c.requires.page
           inv.2 wrote.sets wrote.count,
     )

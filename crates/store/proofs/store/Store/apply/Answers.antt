@@ -1,4 +1,4 @@
-use Rattle.std.proofs.Common.{[], ◌∷◌, ◌++◌, ◌+◌, map, get_or, take, vec_items, sym, ap, ◌∙◌, subst, subst₂, arith}
+use Rattle.std.proofs.Common.{[], ◌∷◌, ◌++◌, ◌+◌, map, take, vec_items, sym, ap, ◌∙◌, subst, subst₂, arith}
 use Rattle.std.proofs.lemmas.List.{take_more, take_all, map_push}
 use Rattle.coset.specs.Code.{code}
 use Rattle.calls.specs.Calls.{state_of, Obeys}

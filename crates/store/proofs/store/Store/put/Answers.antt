@@ -1,25 +1,18 @@
 use Rattle.std.proofs.Common.{refl, arith}
 use Rattle.coset.specs.Code.{code}
 use Rattle.coset.specs.CellSets.{members_of}
-use Rattle.store.proofs.Serving.{found_inside, put_full, put_served}
+use Rattle.store.proofs.Serving.{known_inside, put_full, put_served}
 use Rattle.store.proofs.store.Store.put.Goals as goal
-
-pub read-held-requires : goal.read-held-requires
-read-held-requires g c =
-    found_inside (code (g.G.Group.meaning c.args.self.now.group) c.args.self.now.n) (g.A.CellArray.cells c.args.self.now.array)
-    c.args.«record» c.in_ok-at.at c.in_ok-at.ensures
 
 pub write-marked-requires : goal.write-marked-requires
 write-marked-requires g c =
-    found_inside (code (g.G.Group.meaning c.args.self.now.group) c.args.self.now.n) (g.A.CellArray.cells c.args.self.now.array)
-    c.args.«record» c.in_ok-at.at c.in_ok-at.ensures
+    known_inside (code (g.G.Group.meaning c.args.self.now.group) c.args.self.now.n) (g.A.CellArray.cells c.args.self.now.array) c.args.«record» c.in_ok-found.found c.in_ok-found.ensures
 
 pub returns-in_default : goal.returns-in_default
 returns-in_default g c =
     let full =
-    put_full (code (g.G.Group.meaning c.args.self.now.group) c.args.self.now.n) (g.A.CellArray.cells c.args.self.now.array)
-    c.args.«record» c.in_ok-at.at c.in_ok-at.ensures (members_of c.read-held.result) c.read-held.ensures
-    c.args.value c.label_sum-old.result (omega arith) c.label_sum-old.ensures c.in_default.ensures in
+    put_full (code (g.G.Group.meaning c.args.self.now.group) c.args.self.now.n) (g.A.CellArray.cells c.args.self.now.array) c.args.«record» c.in_ok-found.found c.in_ok-found.ensures
+    c.args.value (omega arith) c.in_default.ensures in
     record { held = refl; intact = λ whole. whole; group = refl; n = refl; obeys = (full, refl, refl) }
 
 pub returns : goal.returns
@@ -32,9 +25,8 @@ returns g c =
       group = refl;
       n = refl;
       obeys =
-          put_served (code (g.G.Group.meaning c.args.self.now.group) c.args.self.now.n) (g.A.CellArray.cells c.args.self.now.array)
-          c.args.«record» c.in_ok-at.at c.in_ok-at.ensures (members_of c.read-held.result) c.read-held.ensures
-          c.args.value c.label_sum-old.result (omega arith) c.label_sum-old.ensures (members_of c.in-Some.plan)
+          put_served (code (g.G.Group.meaning c.args.self.now.group) c.args.self.now.n) (g.A.CellArray.cells c.args.self.now.array) c.args.«record» c.in_ok-found.found c.in_ok-found.ensures
+          c.args.value (omega arith) (members_of c.in-Some.plan)
           (g.A.CellArray.cells c.write-marked.new.array) c.args.self.now.ledger c.note_put.new.self c.write-marked.result
           c.in-Some.ensures wrote.sets wrote.count noted.changes noted.renewals noted.marked;
     }
