@@ -4,6 +4,8 @@ use Rattle.std.proofs.lemmas.Nat.{mul-add-lt, div-mul-add, mod-mul-add}
 use Rattle.std.proofs.lemmas.Bool.{leb-true}
 use Rattle.images.specs.declared.format.Format.{Format}
 use Rattle.images.specs.declared.layout.Layout.{Layout}
+use Rattle.cells.specs.Rows.{Served}
+use Rattle.cells.specs.Device.{cell_rows}
 use Rattle.images.specs.Image.{page_bytes, page_at, size, cells_at, fits, part_cells}
 use Rattle.images.specs.Bytes.{Finds}
 
@@ -39,11 +41,11 @@ module _ (f : Format) (l : Layout) (xs : List ℕ) where
   suffices e = leb-true _ _ e
 
   pub found :
-      (p i at : ℕ) → p < (part_cells f l xs).pages → i < (part_cells f l xs).width →
-      at ≡ page_at f l.pages l.width p + i / 8 → Finds f l xs p i (Ok at)
-  found p i at a b e =
-      let s = shown (fits f l xs) l.pages p a in
-      let t = shown (fits f l xs) l.width i b in
+      (p i at : ℕ) → Served (cell_rows (part_cells f l xs) p i) → at ≡ page_at f l.pages l.width p + i / 8 →
+      Finds f l xs p i (Ok at)
+  found p i at there e =
+      let s = shown (fits f l xs) l.pages p (omega (arith, there.0)) in
+      let t = shown (fits f l xs) l.width i (omega (arith, there.1.0)) in
       let room = suffices s.0 in
       let inside = within p (page_bytes l.width) (i / 8) l.pages s.1 (byte_within l.width i t.1) in
-      ((λ n. omega arith, (λ n. omega arith, tt)), e, room, omega arith)
+      (there, e, room, omega arith)

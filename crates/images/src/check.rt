@@ -5,7 +5,7 @@ ghost use Rattle.images.specs.Image.{reads, size, pages_of, width_of};
 ghost use Rattle.images.specs.Check.{first_rows, counts_rows, wear_rows, width_rows, body_rows, Stray, Checks, ReadsAs, Passes};
 ghost use Rattle.images.specs.Written.{Exact, ReadBack};
 
-use crate::bytes;
+use crate::flash;
 use crate::fault::ImageFault;
 use crate::format::Format;
 use crate::layout::Layout;
@@ -151,7 +151,7 @@ fn check_counts(image: &[u8], pages: usize) -> Result<(), ImageFault>
         if image.len() < 5 + 4 * page {
             return Err(ImageFault::Short);
         }
-        if bytes::count(image, page) > bytes::LIMIT {
+        if flash::count(image, page) > flash::LIMIT {
             return Err(ImageFault::Wear);
         }
     }

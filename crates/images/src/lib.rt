@@ -2,7 +2,6 @@
 // them, the fuse bank and the flash part.
 #![tactic(auto)]
 
-mod bytes;
 mod check;
 pub mod fault;
 pub mod flash;
@@ -10,4 +9,5 @@ pub mod format;
 pub mod fresh;
 pub mod fuse;
 pub mod layout;
+pub mod part;
 mod places;
