@@ -1,4 +1,3 @@
 pub mod Finite
-pub mod Mids
 pub mod BenchPart
 pub mod Sizes

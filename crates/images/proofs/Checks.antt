@@ -1,10 +1,10 @@
 -- The steps of the check: the wear counts one by one, and the unused bits of a page. Assumes nothing.
-use Rattle.std.proofs.Common.{◌≡◌, ℕ, zero, suc, ◌+◌, ◌-◌, ◌*◌, ◌/◌, ◌%◌, ◌<◌, ◌≤◌, Bool, true, ◌⊎◌, List, ◌++◌, get_or, Decides, sym, subst, subst₂, inl, inr, add-one, arith}
+use Rattle.std.proofs.Common.{◌≡◌, ℕ, zero, suc, ◌+◌, ◌-◌, ◌*◌, ◌<◌, ◌≤◌, Bool, true, ◌⊎◌, List, ◌++◌, Decides, sym, subst, subst₂, inl, inr, add-one, arith}
 use Rattle.std.proofs.lemmas.Bool.Decides.{Decides-like}
 use Rattle.std.proofs.lemmas.Bool.{cases_eq}
 use Rattle.images.specs.declared.format.Format.{Format}
 use Rattle.cells.specs.Rows.{Row, Refused, Served}
-use Rattle.images.specs.Image.{reads, page_bytes, page_at, pages_of, width_of}
+use Rattle.images.specs.Image.{page_bytes, pages_of, width_of, cells_at}
 use Rattle.images.specs.Check.{first_rows, count_rows, counts_rows, wear_rows, width_rows, body_rows, image_rows, Stray}
 use Rattle.images.proofs.Tables.{served_both, served_first, served_rest, refused_first, refused_rest}
 
@@ -68,29 +68,11 @@ module _ (f : Format) (xs : List ℕ) (first : Served (first_rows xs)) where
           (served_both (wear_rows f xs) _ wear
           (served_both (width_rows f xs) body width (subst₂ (λ P' c'. Served (body_rows f P' c' xs)) p w b)))
 
--- The unused bits of a page are the bits of its last byte from the first past the cells.
-module _ (f : Format) (P c : ℕ) (xs : List ℕ) (p last byte : ℕ) (some : 0 < c) (end : last ≡ page_bytes c - 1)
-    (read : byte ≡ get_or xs (page_at f P c p + last) 0) where
+-- A page has an unused bit that reads as set where some bit between its cells and its end does.
+module _ (f : Format) (P c : ℕ) (xs : List ℕ) (p : ℕ) where
   pub stray_decided :
-      (r : Bool) → Decides r ((k : ℕ) × (c - 8 * last ≤ k) × (k < 8) × (reads f byte k ≡ true)) → Decides r (Stray f P c xs p)
-  stray_decided r d = Decides-like r there back d
-    where
-      there : ((k : ℕ) × (c - 8 * last ≤ k) × (k < 8) × (reads f byte k ≡ true)) → Stray f P c xs p
-      there s =
-          let lo = s.1 in
-          let hi = s.2 in
-          let quotient : (8 * last + s.0) / 8 ≡ last = omega arith in
-          let remainder : (8 * last + s.0) % 8 ≡ s.0 = omega arith in
-          record {
-            place = 8 * last + s.0;
-            unused = omega arith;
-            inside = omega arith;
-            reads = rw (quotient, remainder) (rw (← read) s.3);
-          }
-
-      back : Stray f P c xs p → ((k : ℕ) × (c - 8 * last ≤ k) × (k < 8) × (reads f byte k ≡ true))
-      back s =
-          let lo = s.unused in
-          let hi = s.inside in
-          let quotient : s.place / 8 ≡ last = omega arith in
-          (s.place % 8, omega arith, omega arith, rw read (rw (← quotient) s.reads))
+      (end : ℕ) → end ≡ 8 * page_bytes c → (r : Bool) →
+      Decides r ((i : ℕ) × (c ≤ i) × (i < c + (end - c)) × ((cells_at f P c xs).set p i ≡ true)) → Decides r (Stray f P c xs p)
+  stray_decided end whole r d =
+      Decides-like r (λ s. let lt = s.2 in record { place = s.0; unused = s.1; inside = omega arith; reads = s.3 })
+      (λ s. let lt = s.inside in let le = s.unused in (s.place, s.unused, omega arith, s.reads)) d

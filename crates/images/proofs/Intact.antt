@@ -1,13 +1,16 @@
 -- An accepted image stays accepted by marks and erases. Assumes nothing.
-use Rattle.std.proofs.Common.{◌≡◌, ℕ, ◌+◌, ◌*◌, ◌/◌, ◌%◌, ◌<◌, ◌≤◌, Bool, true, false, cond, ◌⊎◌, List, length, get_or, set, Ok, sym, refl, ap, ◌∙◌, subst, ap₂, inl, inr, arith}
+use Rattle.std.proofs.Common.{◌≡◌, ℕ, ◌+◌, ◌*◌, ◌/◌, ◌%◌, ◌<◌, ◌≤◌, Bool, true, false, cond, ◌⊎◌, List, length, get_or, set, Ok, Err, Result, sym, refl, ap, ◌∙◌, subst, ap₂, inl, inr, arith}
+use Rattle.std.specs.Result.{result_unwrap_or}
 use Rattle.std.proofs.lemmas.Bool.{both_ways, cases_eq, le-leb}
+use Rattle.images.specs.declared.fault.ImageFault.{ImageFault}
+use Rattle.images.specs.Faults.{image_number}
 use Rattle.images.specs.declared.format.Format.{Format}
 use Rattle.images.specs.declared.format.Format.TheVariants.{Flash}
 use Rattle.images.specs.declared.layout.Layout.{Layout}
 use Rattle.cells.specs.Rows.{Refused}
 use Rattle.cells.specs.Device.{Marked}
 use Rattle.images.specs.Image.{count_bytes, width_at, page_at, width_of, count_of, cells_at, fits, part_cells, SetsBit}
-use Rattle.images.specs.Check.{image_rows, Stray, Accepted, ReadsAs}
+use Rattle.images.specs.Check.{image_rows, Stray, Accepted, Checks, ReadsAs}
 use Rattle.images.specs.Bytes.{BitSet, PageErased, Finds}
 use Rattle.images.proofs.Offsets.{shown, part_is}
 use Rattle.images.proofs.Tables.{served_not_refused}
@@ -126,7 +129,7 @@ module _ (f : Format) (l : Layout) (xs : List ℕ) (p i at y : ℕ) (found : Fin
 
 -- What a part reads an image as, accepted or refused.
 module _ (f : Format) (xs : List ℕ) (l : Layout) where
-  pub reads_accepted : Accepted f l xs → ReadsAs f xs l
+  reads_accepted : Accepted f l xs → ReadsAs f xs l
   reads_accepted was =
       let good = layout_good f l xs was in
       record {
@@ -135,7 +138,7 @@ module _ (f : Format) (xs : List ℕ) (l : Layout) where
         refused = λ bad. absurd (bad was.0);
       }
 
-  pub reads_refused : (r : ℕ) → Refused (image_rows f xs) r → l.pages ≡ 0 → l.width ≡ 0 → ReadsAs f xs l
+  reads_refused : (r : ℕ) → Refused (image_rows f xs) r → l.pages ≡ 0 → l.width ≡ 0 → ReadsAs f xs l
   reads_refused r bad a b =
       record {
         layout = λ good. absurd (served_not_refused (image_rows f xs) r good bad);
@@ -146,3 +149,10 @@ module _ (f : Format) (xs : List ℕ) (l : Layout) where
       none : (t : Bool) (n : ℕ) → n ≡ 0 → cond t n 0 ≡ 0
       none true n e = e
       none false n e = refl
+
+-- by what the check answers
+pub reads :
+    (f : Format) (xs : List ℕ) (r : Result Layout ImageFault) (none l : Layout) → Checks f xs r → none.pages ≡ 0 → none.width ≡ 0 →
+    l ≡ result_unwrap_or r none → ReadsAs f xs l
+reads f xs (Ok m) none l was a b is = rw is (reads_accepted f xs m was)
+reads f xs (Err e) none l bad a b is = rw is (reads_refused f xs none (image_number e) bad a b)

@@ -1,9 +1,11 @@
 pub mod Bits
 pub mod Tables
+pub mod Ranges
 pub mod Checks
 pub mod Good
 pub mod Offsets
 pub mod ByteBits
+pub mod Mids
 pub mod Writes
 pub mod Writing
 pub mod ReadBack

@@ -12,7 +12,7 @@ use Rattle.images.specs.Bytes.{BitSet, PageErased}
 use Rattle.images.proofs.Offsets.{same_block, same_place, byte_within, page_within, part_is}
 use Rattle.images.proofs.ByteBits.{four_digits}
 use Rattle.cells.proofs.Finite.{passes}
-use Rattle.cells.proofs.Mids.{mid_length, mid_below, mid_above, mid_inside}
+use Rattle.images.proofs.Mids.{mid_length, mid_below, mid_above, mid_inside}
 
 -- a wear count is that of other bytes which agree on its four
 pub count_same : (xs ys : List ℕ) (q : ℕ) → ((j : ℕ) → 1 + 4 * q ≤ j → j < 5 + 4 * q → get_or ys j 0 ≡ get_or xs j 0) → count_of ys q ≡ count_of xs q

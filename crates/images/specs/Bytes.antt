@@ -1,12 +1,12 @@
 -- Which bytes of an image a mark and an erase write, and that they write no other. Assumes nothing.
-use Rattle.std.specs.Prelude.{◌≡◌, ℕ, ◌+◌, ◌*◌, ◌/◌, ◌%◌, ◌<◌, ◌≤◌, List, length, Some, None, Ok, Err, Result, ◌≢◌, slice_index}
+use Rattle.std.specs.Prelude.{◌≡◌, ℕ, ◌+◌, ◌*◌, ◌/◌, ◌%◌, ◌<◌, ◌≤◌, List, length, Some, Ok, Err, Result, ◌≢◌, slice_index}
 use Rattle.cells.specs.declared.fault.DeviceFault.{DeviceFault}
 use Rattle.images.specs.declared.format.Format.{Format}
 use Rattle.images.specs.declared.format.Format.TheVariants.{Flash}
 use Rattle.images.specs.declared.layout.Layout.{Layout}
 use Rattle.cells.specs.Rows.{Refused, Served}
 use Rattle.cells.specs.Faults.{device_number}
-use Rattle.cells.specs.Device.{cell_rows, page_rows, Names}
+use Rattle.cells.specs.Device.{cell_rows, Names}
 use Rattle.images.specs.Image.{SetsBit, page_bytes, page_at, size, count_of, part_cells}
 
 -- Bit k of the byte `at` is made to read as set; every other bit and byte is as it was.
@@ -41,10 +41,3 @@ Finds f l xs p i (Ok at) =
     Served (cell_rows (part_cells f l xs) p i) × (at ≡ page_at f l.pages l.width p + i / 8)
     × (size f l.pages l.width ≤ length xs) × (at < length xs)
 Finds f l xs p i (Err e) = Refused (cell_rows (part_cells f l xs) p i) (device_number e) × Names e p (Some i)
-
--- The wear of page p, or why there is no such page.
-abbrev pub ReadsWear : Layout → List ℕ → ℕ → Result ℕ DeviceFault → Type 0
-ReadsWear l xs p (Ok w) =
-    Served (page_rows (part_cells Flash l xs) p) × (w ≡ (part_cells Flash l xs).wear p)
-    × (size Flash l.pages l.width ≤ length xs)
-ReadsWear l xs p (Err e) = Refused (page_rows (part_cells Flash l xs) p) (device_number e) × Names e p None

@@ -1,12 +1,12 @@
 // The check of an image, in reading order: the layout of a good one, else the first row of the table that holds.
 // Each byte is read a bounded number of times, whatever the bytes are.
-ghost use Rattle.std.specs.Prelude.{◌≡◌, ℕ, ◌+◌, ◌<◌, ◌≤◌, true, length, Decides};
-ghost use Rattle.images.specs.Image.{reads, size, pages_of, width_of};
+ghost use Rattle.std.specs.Prelude.{◌≡◌, ℕ, ◌<◌, ◌≤◌, length, Decides};
+ghost use Rattle.images.specs.Image.{size, pages_of, width_of};
 ghost use Rattle.images.specs.Check.{first_rows, counts_rows, wear_rows, width_rows, body_rows, Stray, Checks, ReadsAs, Passes};
 ghost use Rattle.images.specs.Written.{Exact, ReadBack};
 
-use crate::flash;
 use crate::fault::ImageFault;
+use crate::flash;
 use crate::format::Format;
 use crate::layout::Layout;
 
@@ -25,10 +25,7 @@ impl Format {
     pub(crate) fn layout_of(self, image: &[u8]) -> Layout
         ensures { ReadsAs self image.now result }
     {
-        let Ok(layout) = self.check(image) else {
-            return Layout { pages: 0, width: 0 };
-        };
-        layout
+        self.check(image).unwrap_or(Layout { pages: 0, width: 0 })
     }
 
     // The layout that the counts show, or the first row that holds.
@@ -38,15 +35,17 @@ impl Format {
         let pages = read_pages(image)?;
         self.check_wear(image, pages)?;
         let width = self.read_width(image, pages)?;
-        let layout = Layout { pages, width };
+        let layout = Layout {
+            pages: usize::from(pages),
+            width,
+        };
         self.check_body(image, layout)?;
         Ok(layout)
     }
 
     // The wear counts, where the format has any.
-    fn check_wear(self, image: &[u8], pages: usize) -> Result<(), ImageFault>
-        requires pages_bound { pages ≤ 64 }
-        requires pages_value { pages ≡ pages_of image.now }
+    fn check_wear(self, image: &[u8], pages: u8) -> Result<(), ImageFault>
+        requires { pages ≡ pages_of image.now }
         ensures { Passes (wear_rows self image.now) (λ _. Unit {0}) result }
     {
         match self {
@@ -55,12 +54,11 @@ impl Format {
         }
     }
 
-    fn read_width(self, image: &[u8], pages: usize) -> Result<usize, ImageFault>
-        requires pages_bound { pages ≤ 64 }
-        requires pages_value { pages ≡ pages_of image.now }
+    fn read_width(self, image: &[u8], pages: u8) -> Result<usize, ImageFault>
+        requires { pages ≡ pages_of image.now }
         ensures { Passes (width_rows self image.now) (λ c. (c ≡ width_of self image.now) × (0 < c) × (c ≤ 1024)) result }
     {
-        let at = 1 + self.count_bytes() * pages;
+        let at = 1 + self.count_bytes() * usize::from(pages);
         if image.len() < at + 2 {
             return Err(ImageFault::Short);
         }
@@ -73,7 +71,6 @@ impl Format {
 
     // The pages, and what follows them.
     fn check_body(self, image: &[u8], layout: Layout) -> Result<(), ImageFault>
-        requires { 0 < layout.width }
         ensures { Passes (body_rows self layout.pages layout.width image.now) (λ _. Unit {0}) result }
     {
         let size = layout.size(self);
@@ -91,63 +88,44 @@ impl Format {
 
     // Whether an unused bit of any page reads as set.
     fn any_stray(self, image: &[u8], layout: Layout) -> bool
-        requires width_nonzero { 0 < layout.width }
-        requires image_fits { size self layout.pages layout.width ≤ length image.now }
+        requires { size self layout.pages layout.width ≤ length image.now }
         ensures { Decides result ((p : ℕ) × (p < layout.pages) × Stray self layout.pages layout.width image.now p) }
     {
-        for page in 0..layout.pages {
-            if self.stray(image, layout, page) {
-                return true;
-            }
-        }
-        false
+        (0..layout.pages).any(|page| self.stray(image, layout, page))
     }
 
-    // Whether one of a page does. They all lie in its last byte.
+    // Whether one of a page does: a bit past its cells.
     fn stray(self, image: &[u8], layout: Layout, page: usize) -> bool
-        requires width_nonzero { 0 < layout.width }
         requires page_lt_pages { page < layout.pages }
         requires image_fits { size self layout.pages layout.width ≤ length image.now }
         ensures { Decides result (Stray self layout.pages layout.width image.now page) }
     {
-        let last = layout.page_bytes() - 1;
-        let byte = image[layout.page_at(self, page) + last];
-        self.reads_any(byte, layout.width - 8 * last)
-    }
-
-    // Whether any bit from `from` on reads as set.
-    fn reads_any(self, byte: u8, from: usize) -> bool
-        ensures { Decides result ((k : ℕ) × (from ≤ k) × (k < 8) × (reads self byte k ≡ true)) }
-    {
-        for k in from..8 {
-            if self.reads(byte, k) {
-                return true;
-            }
-        }
-        false
+        let at = layout.page_at(self, page);
+        (layout.width..8 * layout.page_bytes()).any(|place| self.reads(
+            image[at + place / 8],
+            place % 8,
+        ))
     }
 }
 
 // The count of pages.
-fn read_pages(image: &[u8]) -> Result<usize, ImageFault>
+fn read_pages(image: &[u8]) -> Result<u8, ImageFault>
     ensures { Passes (first_rows image.now) (λ p. (p ≡ pages_of image.now) × (0 < p) × (p ≤ 64)) result }
 {
     let [pages, ..] = image else {
         return Err(ImageFault::Short);
     };
-    let pages = usize::from(*pages);
-    if pages == 0 || pages > 64 {
+    if *pages == 0 || *pages > 64 {
         return Err(ImageFault::Pages);
     }
-    Ok(pages)
+    Ok(*pages)
 }
 
 // The wear counts of a flash image, each one's bytes and then its row.
-fn check_counts(image: &[u8], pages: usize) -> Result<(), ImageFault>
-    requires { pages ≤ 64 }
+fn check_counts(image: &[u8], pages: u8) -> Result<(), ImageFault>
     ensures { Passes (counts_rows image.now pages) (λ _. Unit {0}) result }
 {
-    for page in 0..pages {
+    for page in 0..usize::from(pages) {
         if image.len() < 5 + 4 * page {
             return Err(ImageFault::Short);
         }

@@ -30,8 +30,7 @@ fn unset_image(heap: Global, layout: Layout) -> Result<Vec<u8>, AllocError>
     let mut image = Vec::with_capacity(heap, size)?;
     image.push(layout.pages as u8)?;
     image.resize(1 + 4 * layout.pages, 0)?;
-    image.push((layout.width / 256) as u8)?;
-    image.push((layout.width % 256) as u8)?;
+    image.extend_from_slice(&(layout.width as u16).to_be_bytes())?;
     image.resize(size, 0xff)?;
     Ok(image)
 }

@@ -1,11 +1,15 @@
-use Rattle.std.proofs.Common.{arith, below_more}
-use Rattle.std.proofs.lemmas.Bool.{false≢true}
-use Rattle.std.proofs.lemmas.Bool.Decides.{not_from_Decides}
+use Rattle.std.proofs.Common.{ℕ, refl, arith, rules, tests}
+use Rattle.std.proofs.lemmas.Iterator.{cases_from_any, YieldsList-from_range}
+use Rattle.std.proofs.lemmas.Bool.Decides.{Decides-like}
+use Rattle.images.specs.Check.{Stray}
+use Rattle.images.proofs.Ranges.{any_in_range}
 use Rattle.images.proofs.format.Format.any_stray.Goals as goal
-
-pub loop-page-preserved : goal.loop-page-preserved
-loop-page-preserved c = below_more _ _ c.loop-page.invariant (not_from_Decides _ c.stray.ensures c.if-stray.false)
 
 pub returns : goal.returns
 returns c =
-    (λ e. absurd (false≢true e), λ s. let inside = s.1 in absurd (c.loop-page.invariant s.0 (omega arith) s.2))
+    let l = c.args.layout in
+    let strays = λ (p : ℕ). Stray c.args.self l.pages l.width c.args.image.now p in
+    Decides-like c.any.result (λ s. (s.0, omega (arith, s.2), s.3)) (λ s. (s.0, omega arith, omega (arith, s.1), s.2))
+    (any_in_range strays 0 l.pages c.any.result
+    (cases_from_any _ _ c.any.result strays (λ p. strays p → ⊥) c.any.ensures.ran (YieldsList-from_range 0 l.pages l.pages refl (omega arith))
+    (λ x q k. search (rules, tests)) (λ x q k. search (rules, tests))))

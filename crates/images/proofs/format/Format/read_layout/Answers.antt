@@ -1,3 +1,4 @@
+use Rattle.std.proofs.Common.{◌∙◌}
 use Rattle.std.proofs.lemmas.Result.{err_from_is_err_and}
 use Rattle.images.proofs.Checks.{at_wear, at_width, at_body, at_end}
 use Rattle.images.proofs.format.Format.read_layout.Goals as goal
@@ -22,7 +23,7 @@ returns-in_err-check_body c =
     let wear = c.in_ok-check_wear.ensures in
     let width = c.in_ok-width.ensures in
     rw (p.1, p.2)
-    (at_body c.args.self c.args.image.now first.0 wear.0 width.0 _ _ first.1.0 width.1.0 _
+    (at_body c.args.self c.args.image.now first.0 wear.0 width.0 _ _ (c.from.ensures ∙ first.1.0) width.1.0 _
     c.in_err-check_body.ensures)
 
 pub returns : goal.returns
@@ -31,4 +32,4 @@ returns c =
     let wear = c.in_ok-check_wear.ensures in
     let width = c.in_ok-width.ensures in
     let body = c.in_ok-check_body.ensures in
-    (at_end c.args.self c.args.image.now first.0 wear.0 width.0 _ _ first.1.0 width.1.0 body.0, first.1.0, width.1.0)
+    (at_end c.args.self c.args.image.now first.0 wear.0 width.0 _ _ (c.from.ensures ∙ first.1.0) width.1.0 body.0, c.from.ensures ∙ first.1.0, width.1.0)
