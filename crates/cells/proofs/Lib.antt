@@ -1,3 +1,4 @@
 pub mod Finite
 pub mod BenchPart
+pub mod Looks
 pub mod Sizes

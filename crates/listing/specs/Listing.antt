@@ -1,5 +1,5 @@
 -- What a listing of an image says. Assumes nothing.
-use Rattle.std.specs.Prelude.{◌≡◌, ℕ, List, map, Ok, Err, vec_items, Result}
+use Rattle.std.specs.Prelude.{◌≡◌, ℕ, List, map, Ok, Err, vec_items, vec_len, Result}
 use Rattle.std.specs.List.{range_with_len}
 use Rattle.images.specs.declared.fault.ImageError.{ImageError}
 use Rattle.images.specs.declared.fault.ImageError.TheVariants.{Image, NoMemory}
@@ -24,7 +24,7 @@ page_reports m = map (page_report m) (range_with_len 0 m.pages)
 -- The listing of the flash image xs says what the image means; a refused image is refused by the first row that holds.
 abbrev pub Lists : List ℕ → Result Listing ImageError → Type 0
 Lists xs (Ok l) =
-    Served (image_rows Flash xs) × (l.pages ≡ (decoded Flash xs).pages) × (l.width ≡ (decoded Flash xs).width)
+    Served (image_rows Flash xs) × (vec_len l.reports ≡ (decoded Flash xs).pages) × (l.width ≡ (decoded Flash xs).width)
     × (vec_items l.reports ≡ page_reports (decoded Flash xs))
 Lists xs (Err (Image e)) = Refused (image_rows Flash xs) (image_number e)
 Lists xs (Err NoMemory) = Served (image_rows Flash xs)

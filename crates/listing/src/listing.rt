@@ -1,4 +1,4 @@
-// The listing of a flash image, or why it is refused.
+// Reading the listing of a flash image, or why it is refused.
 // It goes over the image by the looks and wear questions of the flash part alone.
 ghost use Rattle.std.specs.Prelude.{◌≡◌, ◌<◌, IfOk};
 ghost use Rattle.cells.specs.Sets.{size_below};
@@ -20,7 +20,6 @@ pub fn list_flash(heap: Global, image: &mut [u8]) -> Result<Listing, ImageError>
     let part = FlashPart::over(image);
     let reports = report_pages(heap, &part)?;
     Ok(Listing {
-        pages: layout.pages,
         width: layout.width,
         reports,
     })
@@ -29,11 +28,9 @@ pub fn list_flash(heap: Global, image: &mut [u8]) -> Result<Listing, ImageError>
 fn report_pages<A: Erasable>(heap: Global, array: &A) -> Result<Vec<PageReport>, AllocError>
     ensures { IfOk result (λ v. v.items ≡ page_reports (A.CellArray.cells array.now)) }
 {
-    let mut reports = Vec::new(heap);
-    for page in 0..array.pages() {
-        reports.push(report(array, page))?;
-    }
-    Ok(reports)
+    (0..array.pages())
+        .map(|page| report(array, page))
+        .collect(heap)
 }
 
 fn report<A: Erasable>(array: &A, page: usize) -> PageReport
@@ -52,23 +49,7 @@ fn count_set<A: CellArray>(array: &A, page: usize) -> usize
     requires { page < (A.CellArray.cells array.now).pages }
     ensures { result ≡ size_below ((A.CellArray.cells array.now).set page) (A.CellArray.cells array.now).width }
 {
-    let mut count = 0;
-    for cell in 0..array.width() {
-        if is_set(array, page, cell) {
-            count += 1;
-        }
-    }
-    count
-}
-
-// Whether a cell that there is is set.
-fn is_set<A: CellArray>(array: &A, page: usize, cell: usize) -> bool
-    requires page_bound { page < (A.CellArray.cells array.now).pages }
-    requires cell_bound { cell < (A.CellArray.cells array.now).width }
-    ensures { result ≡ (A.CellArray.cells array.now).set page cell }
-{
-    match array.look(page, cell) {
-        Ok(set) => set,
-        Err(_) => unreachable(),
-    }
+    (0..array.width())
+        .filter(|cell| array.is_set(page, *cell))
+        .count()
 }

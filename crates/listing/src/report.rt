@@ -1,5 +1,7 @@
-// Listings: what an image holds, page by page.
-// They are read through the cell interface, and alter nothing.
+// What a listing says of an image: its width, and a report of each page.
+// It is plain data, which its reader may print or compare.
+ghost use Rattle.std.specs.Prelude.{◌≡◌, vec_len};
+
 #[derive(Clone, Copy)]
 pub struct PageReport {
     pub wear: u32,
@@ -9,7 +11,15 @@ pub struct PageReport {
 
 #[derive(Drop)]
 pub struct Listing {
-    pub pages: usize,
     pub width: usize,
+    // one for each page, in order
     pub reports: Vec<PageReport>,
+}
+
+impl Listing {
+    pub fn pages(&self) -> usize
+        ensures { result ≡ vec_len self.now.reports }
+    {
+        self.reports.len()
+    }
 }
