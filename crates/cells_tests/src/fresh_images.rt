@@ -5,6 +5,7 @@ use images::fault::{ImageError, ImageFault};
 use images::format::Format;
 use images::fresh::fresh_flash;
 use listing::listing::list_flash;
+use listing::report::PageReport;
 use std::test::Fail;
 
 #[test]
@@ -68,17 +69,17 @@ fn a_listing_counts_each_page(rt: HostRuntime) -> Result<(), Fail> {
     let worn = [
         2, 0, 0, 0, 0, 0, 0, 0x27, 0x10, 0, 9, 0xff, 0xff, 0x00, 0xfe,
     ];
-    let cases = [(FLASH, 12, (0, 2), (3, 3)), (worn, 9, (0, 0), (10_000, 9))];
-    for (bytes, width, first, last) in cases {
+    let report = |wear, set| PageReport { wear, set };
+    let cases = [
+        (FLASH, 12, [report(0, 2), report(3, 3)]),
+        (worn, 9, [report(0, 0), report(10_000, 9)]),
+    ];
+    for (bytes, width, reports) in cases {
         let mut image = bytes;
         let listing = list_flash(rt.alloc(), &mut image)?;
         assert_eq!(rt; image, bytes, "nothing is altered");
-        assert_eq!(rt; (listing.pages, listing.width), (2, width));
-        let [one, two] = listing.reports.as_slice() else {
-            return Err(Fail::new("a report for each page"));
-        };
-        assert_eq!(rt; (one.wear, one.set), first);
-        assert_eq!(rt; (two.wear, two.set), last);
+        assert_eq!(rt; (listing.pages(), listing.width), (2, width));
+        assert_eq!(rt; listing.reports.as_slice(), reports.as_slice());
     }
     Ok(())
 }

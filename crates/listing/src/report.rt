@@ -2,7 +2,7 @@
 // It is plain data, which its reader may print or compare.
 ghost use Rattle.std.specs.Prelude.{◌≡◌, vec_len};
 
-#[derive(Clone, Copy)]
+#[derive(Clone, Copy, PartialEq, Debug)]
 pub struct PageReport {
     pub wear: u32,
     // how many cells of the page are set

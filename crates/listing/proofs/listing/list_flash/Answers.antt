@@ -1,4 +1,4 @@
-use Rattle.std.proofs.Common.{◌≡◌, length, ap, ◌∙◌, rules, vec_items}
+use Rattle.std.proofs.Common.{◌≡◌, length, ap, ◌∙◌, vec_items}
 use Rattle.std.proofs.lemmas.List.FromFn.{length-map-range_with_len}
 use Rattle.images.specs.declared.format.Format.TheVariants.{Flash}
 use Rattle.images.specs.Image.{part_cells, decoded}
