@@ -1,5 +1,6 @@
 -- What look, mark, wear and erase refuse, and what they do where they serve. Assumes nothing.
 use Rattle.std.specs.Prelude.{◌≡◌, ℕ, ◌+◌, ◌<◌, ◌≤◌, Bool, true, false, List, [], ◌∷◌, Some, None, Ok, Err, Option, Result, ◌≢◌}
+use Rattle.std.specs.Borrow.{GName}
 use Rattle.cells.specs.declared.fault.DeviceFault.{DeviceFault}
 use Rattle.cells.specs.declared.fault.DeviceFault.TheVariants.{NoPage, NoCell, Worn}
 use Rattle.cells.specs.Cells.{Cells, Shaped, Cell}
@@ -68,3 +69,7 @@ Wears m p (Err f) = Refused (page_rows m p) (device_number f) × Names f p None
 abbrev pub Erases : ℕ → Cells → Cells → {A : Type 0} → Result A DeviceFault → Type 0
 Erases p before after (Ok u) = Served (erase_rows before p) × Erased p before after
 Erases p before after (Err f) = Refused (erase_rows before p) (device_number f) × Names f p None × (after ≡ before)
+
+-- What every call keeps of an array: the names of what it borrows, and its memory intact where it was so.
+abbrev pub Kept : {A : Type 0} → (A → List GName) → (A → Type 0) → A → A → Type 0
+Kept held intact before after = (held after ≡ held before) × (intact before → intact after)

@@ -6,6 +6,7 @@ ghost use Rattle.calls.specs.declared.call.Call.{Call as CallMeaning};
 ghost use Rattle.calls.specs.Calls.{state_of, Obeys};
 ghost use Rattle.calls.specs.Promise.{Promise, WithinCeiling};
 ghost use Rattle.calls.specs.Runs.{as_call};
+ghost use Rattle.store.specs.Keeps.{Keeps};
 
 use crate::store::Store;
 use calls::call::{Access, Call};
@@ -21,10 +22,7 @@ pub trait Request<A: CellArray> {
     ghost call: { Self → CallMeaning };
 
     fn serve<G: Group>(&self, store: &mut Store<G, A>) -> Result<u32, StoreFault>
-        ensures held { A.CellArray.held store.new.array ≡ A.CellArray.held store.old.array }
-        ensures intact { A.CellArray.intact store.old.array → A.CellArray.intact store.new.array }
-        ensures group { store.new.group ≡ store.old.group }
-        ensures n { store.new.n ≡ store.old.n }
+        ensures keeps { Keeps A.CellArray.held A.CellArray.intact store.old store.new }
         ensures obeys { Obeys (code (G.Group.meaning store.old.group) store.old.n) (call self.now) result (state_of (A.CellArray.cells store.old.array) store.old.ledger) (state_of (A.CellArray.cells store.new.array) store.new.ledger) };
 }
 
@@ -58,10 +56,7 @@ impl<G: Group, A: CellArray> Store<G, A> {
         heap: Global,
         calls: &[C],
     ) -> Result<Vec<Result<u32, StoreFault>>, AllocError>
-        ensures held { A.CellArray.held self.new.array ≡ A.CellArray.held self.old.array }
-        ensures intact { A.CellArray.intact self.old.array → A.CellArray.intact self.new.array }
-        ensures group { self.new.group ≡ self.old.group }
-        ensures n { self.new.n ≡ self.old.n }
+        ensures keeps { Keeps A.CellArray.held A.CellArray.intact self.old self.new }
         ensures promise { IfOk result (λ answers. Promise (G.Group.meaning self.old.group) self.old.n (state_of (A.CellArray.cells self.old.array) self.old.ledger) (map C.Request.call calls.now) answers.items (state_of (A.CellArray.cells self.new.array) self.new.ledger)) }
         ensures refused { OnErr result (self.new ≡ self.old) }
     {

@@ -1,6 +1,7 @@
 // Whole pages: planning every record of a page from empty, and writing the plans into it.
 // A renewal does both, with an erase between them.
 ghost use Rattle.std.specs.Prelude.{◌≡◌, ℕ, ◌*◌, ◌%◌, ◌<◌, ◌≤◌, false};
+ghost use Rattle.cells.specs.Device.{Kept};
 ghost use Rattle.coset.specs.Code.{code};
 ghost use Rattle.calls.specs.Records.{records, per_page, page_of};
 ghost use Rattle.store.specs.Steps.{PlansPage, PageWritten};
@@ -51,8 +52,7 @@ pub(crate) fn write_page<A: CellArray>(
     requires fits { plans.now.records * n ≤ (A.CellArray.cells array.old).width }
     requires page { page < (A.CellArray.cells array.old).pages }
     requires unset { (j : ℕ) → j < (A.CellArray.cells array.old).width → (A.CellArray.cells array.old).set page j ≡ false }
-    ensures held { A.CellArray.held array.new ≡ A.CellArray.held array.old }
-    ensures intact { A.CellArray.intact array.old → A.CellArray.intact array.new }
+    ensures kept { Kept A.CellArray.held A.CellArray.intact array.old array.new }
     ensures written { PageWritten n page plans.now.records plans.now.plans (A.CellArray.cells array.old) (A.CellArray.cells array.new) result }
 {
     let mut marked = 0;

@@ -1,7 +1,7 @@
 // The cells of one record: finding and reading them, and setting some of them.
 // Each works on any cell array.
 ghost use Rattle.std.specs.Prelude.{◌≡◌, ℕ, ◌<◌};
-ghost use Rattle.cells.specs.Device.{Marked};
+ghost use Rattle.cells.specs.Device.{Kept, Marked};
 ghost use Rattle.cells.specs.Sets.{size_below};
 ghost use Rattle.coset.specs.CellSets.{members_of};
 ghost use Rattle.coset.specs.Code.{code, sum_of};
@@ -65,8 +65,7 @@ impl<G: Group, A: CellArray> Store<G, A> {
 // Sets the cells of a set, and answers how many they are.
 pub(crate) fn write<A: CellArray>(array: &mut A, n: usize, at: Place, set: &CellSet) -> u32
     requires { Inside (A.CellArray.cells array.old) n at }
-    ensures held { A.CellArray.held array.new ≡ A.CellArray.held array.old }
-    ensures intact { A.CellArray.intact array.old → A.CellArray.intact array.new }
+    ensures kept { Kept A.CellArray.held A.CellArray.intact array.old array.new }
     ensures sets { SetsCells n at (members_of set.now) (A.CellArray.cells array.old) (A.CellArray.cells array.new) }
     ensures count { result ≡ size_below (members_of set.now) n }
 {
@@ -83,8 +82,7 @@ pub(crate) fn write<A: CellArray>(array: &mut A, n: usize, at: Place, set: &Cell
 fn set_cell<A: CellArray>(array: &mut A, page: usize, cell: usize)
     requires page_bound { page < (A.CellArray.cells array.old).pages }
     requires cell_bound { cell < (A.CellArray.cells array.old).width }
-    ensures held { A.CellArray.held array.new ≡ A.CellArray.held array.old }
-    ensures intact { A.CellArray.intact array.old → A.CellArray.intact array.new }
+    ensures kept { Kept A.CellArray.held A.CellArray.intact array.old array.new }
     ensures marked { Marked page cell (A.CellArray.cells array.old) (A.CellArray.cells array.new) }
 {
     array.mark(page, cell).unwrap();

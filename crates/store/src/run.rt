@@ -1,6 +1,7 @@
 // The whole promise on one call: a store is made of a group, an array and n, and a list of calls is applied to it.
 // The array is lent, so that its owner has it again with all that the calls left there.
 ghost use Rattle.std.specs.Prelude.{◌≡◌, map, IfOk, OnErr};
+ghost use Rattle.cells.specs.Device.{Kept};
 ghost use Rattle.calls.specs.Calls.{state_of};
 ghost use Rattle.calls.specs.Ledger.{blank};
 ghost use Rattle.calls.specs.Promise.{Promise};
@@ -30,8 +31,7 @@ pub fn run_calls<G: Group + Drop, A: Erasable>(
     n: usize,
     calls: &[Call],
 ) -> Result<Run, AllocError>
-    ensures held { A.CellArray.held array.new ≡ A.CellArray.held array.old }
-    ensures intact { A.CellArray.intact array.old → A.CellArray.intact array.new }
+    ensures kept { Kept A.CellArray.held A.CellArray.intact array.old array.new }
     ensures promise { IfOk result (λ run. Promise (G.Group.meaning group) n (state_of (A.CellArray.cells array.old) blank) calls.now run.answers.items (state_of (A.CellArray.cells array.new) run.ledger)) }
     ensures refused { OnErr result (array.new ≡ array.old) }
 {
@@ -49,8 +49,7 @@ pub fn run_accesses<G: Group + Drop, A: CellArray>(
     n: usize,
     accesses: &[Access],
 ) -> Result<Run, AllocError>
-    ensures held { A.CellArray.held array.new ≡ A.CellArray.held array.old }
-    ensures intact { A.CellArray.intact array.old → A.CellArray.intact array.new }
+    ensures kept { Kept A.CellArray.held A.CellArray.intact array.old array.new }
     ensures promise { IfOk result (λ run. Promise (G.Group.meaning group) n (state_of (A.CellArray.cells array.old) blank) (map as_call accesses.now) run.answers.items (state_of (A.CellArray.cells array.new) run.ledger)) }
     ensures refused { OnErr result (array.new ≡ array.old) }
 {
@@ -67,8 +66,7 @@ fn apply_to<G: Group + Drop, A: CellArray, C: Request<A>>(
     n: usize,
     calls: &[C],
 ) -> (A, Result<Run, AllocError>)
-    ensures held { A.CellArray.held result.0 ≡ A.CellArray.held array }
-    ensures intact { A.CellArray.intact array → A.CellArray.intact result.0 }
+    ensures kept { Kept A.CellArray.held A.CellArray.intact array result.0 }
     ensures promise { IfOk result.1 (λ run. Promise (G.Group.meaning group) n (state_of (A.CellArray.cells array) blank) (map C.Request.call calls.now) run.answers.items (state_of (A.CellArray.cells result.0) run.ledger)) }
     ensures refused { OnErr result.1 (result.0 ≡ array) }
 {

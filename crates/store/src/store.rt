@@ -9,6 +9,7 @@ ghost use Rattle.coset.specs.Plans.{Plans};
 ghost use Rattle.coset.specs.Code.{code};
 ghost use Rattle.calls.specs.Ledger.{blank};
 ghost use Rattle.calls.specs.Records.{makes, per_page, records};
+ghost use Rattle.store.specs.Keeps.{Keeps};
 
 use crate::making::check_making;
 use crate::place::{Found, MAX_PER_PAGE};
@@ -85,10 +86,7 @@ impl<G: Group, A: CellArray> Store<G, A> {
 
     // Sets the fewest cells that take a record to a value, and answers how many.
     pub fn put(&mut self, record: usize, value: u32) -> Result<u32, StoreFault>
-        ensures held { A.CellArray.held self.new.array ≡ A.CellArray.held self.old.array }
-        ensures intact { A.CellArray.intact self.old.array → A.CellArray.intact self.new.array }
-        ensures group { self.new.group ≡ self.old.group }
-        ensures n { self.new.n ≡ self.old.n }
+        ensures keeps { Keeps A.CellArray.held A.CellArray.intact self.old self.new }
         ensures obeys { Obeys (code (G.Group.meaning self.old.group) self.old.n) (Put «record» value) result (state_of (A.CellArray.cells self.old.array) self.old.ledger) (state_of (A.CellArray.cells self.new.array) self.new.ledger) }
     {
         let found = self.find(record)?;
@@ -107,10 +105,7 @@ impl<G: Group, A: CellArray> Store<G, A> {
 impl<G: Group, A: Erasable> Store<G, A> {
     // Erases the page of a record, and writes its records again: this one with a new value, the others with theirs.
     pub fn renew(&mut self, record: usize, value: u32) -> Result<u32, StoreFault>
-        ensures held { A.CellArray.held self.new.array ≡ A.CellArray.held self.old.array }
-        ensures intact { A.CellArray.intact self.old.array → A.CellArray.intact self.new.array }
-        ensures group { self.new.group ≡ self.old.group }
-        ensures n { self.new.n ≡ self.old.n }
+        ensures keeps { Keeps A.CellArray.held A.CellArray.intact self.old self.new }
         ensures obeys { Obeys (code (G.Group.meaning self.old.group) self.old.n) (Renew «record» value) result (state_of (A.CellArray.cells self.old.array) self.old.ledger) (state_of (A.CellArray.cells self.new.array) self.new.ledger) }
     {
         let found = self.find(record)?;

@@ -17,16 +17,13 @@ loop-call-preserved g c =
     let i = c.loop-call.call-index in
     let call = g.C.Request.call in
     let item = c.call-item.result in (
-      served.held ∙ inv.0,
-      (λ whole. served.intact (inv.1 whole)),
-      served.group ∙ inv.2,
-      served.n ∙ inv.3,
-      c.push_reserved.ensures.len ∙ ap (λ k. k + 1) inv.4,
-      (let room = inv.5 in let same = c.push_reserved.ensures.capacity in omega arith),
+      (served.keeps.0 ∙ inv.0.0, served.keeps.1 ∙ inv.0.1, (served.keeps.2.0 ∙ inv.0.2.0, (λ whole. served.keeps.2.1 (inv.0.2.1 whole)))),
+      c.push_reserved.ensures.len ∙ ap (λ k. k + 1) inv.1,
+      (let room = inv.2 in let same = c.push_reserved.ensures.capacity in omega arith),
       subst₂ (λ calls answers. Runs co first calls answers after) (sym (ap (map call) (take_more c.args.calls.now i item c.loop-call-test.true ∙ ap (λ x. take i c.args.calls.now ++ (x ∷ [])) (sym c.call-item.is)) ∙ map_push call (take i c.args.calls.now) item))
           (sym c.push_reserved.ensures.items)
-          (runs_more co first (map call (take i c.args.calls.now)) (vec_items c.loop-call.answers) before after (call item) c.serve-answer.result inv.6
-          (subst₂ (λ gr n. Obeys (code (g.G.Group.meaning gr) n) (call item) c.serve-answer.result before after) inv.2 inv.3 served.obeys)),
+          (runs_more co first (map call (take i c.args.calls.now)) (vec_items c.loop-call.answers) before after (call item) c.serve-answer.result inv.3
+          (subst₂ (λ gr n. Obeys (code (g.G.Group.meaning gr) n) (call item) c.serve-answer.result before after) inv.0.0 inv.0.1 served.obeys)),
     )
 
 pub returns : goal.returns
@@ -39,12 +36,9 @@ returns g c =
     let call = g.C.Request.call in
     let all = take_all c.loop-call.call-index c.args.calls.now c.loop-call-test.false in
     record {
-      held = inv.0;
-      intact = inv.1;
-      group = inv.2;
-      n = inv.3;
+      keeps = inv.0;
       promise =
           runs_promise group (g.met.G.Group.lawful c.args.self.now.group) n first (map call c.args.calls.now) (vec_items c.loop-call.answers) last
-          c.largest-largest.ensures (subst (λ calls. Runs (code group n) first (map call calls) (vec_items c.loop-call.answers) last) all inv.6);
+          c.largest-largest.ensures (subst (λ calls. Runs (code group n) first (map call calls) (vec_items c.loop-call.answers) last) all inv.3);
       refused = tt;
     }

@@ -2,14 +2,12 @@ use Rattle.std.proofs.Common.{◌≡◌, ◌≤◌, map, length, take, vec_items
 use Rattle.coset.specs.Code.{code}
 use Rattle.calls.specs.Calls.{state_of}
 use Rattle.calls.specs.Runs.{Runs}
+use Rattle.store.specs.Keeps.{Keeps}
 use Rattle.store.proofs.store.Store.apply.Given as goal
 
 abbrev pub invariant-loop-call : goal.invariant-loop-call
 invariant-loop-call g l =
-    (g.A.CellArray.held l.self.array ≡ g.A.CellArray.held l.initial.self.array)
-    × (g.A.CellArray.intact l.initial.self.array → g.A.CellArray.intact l.self.array)
-    × (l.self.group ≡ l.initial.self.group)
-    × (l.self.n ≡ l.initial.self.n)
+    Keeps g.A.CellArray.held g.A.CellArray.intact l.initial.self l.self
     × (vec_len l.answers ≡ l.call-index)
     × (length l.calls ≤ vec_capacity l.answers)
     × Runs (code (g.G.Group.meaning l.initial.self.group) l.initial.self.n) (state_of (g.A.CellArray.cells l.initial.self.array) l.initial.self.ledger)

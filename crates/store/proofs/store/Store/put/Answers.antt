@@ -13,17 +13,14 @@ returns-in_default g c =
     let full =
     put_full (code (g.G.Group.meaning c.args.self.now.group) c.args.self.now.n) (g.A.CellArray.cells c.args.self.now.array) c.args.«record» c.in_ok-found.found c.in_ok-found.ensures
     c.args.value (omega arith) c.in_default.ensures in
-    record { held = refl; intact = λ whole. whole; group = refl; n = refl; obeys = (full, refl, refl) }
+    record { keeps = (refl, refl, (refl, λ whole. whole)); obeys = (full, refl, refl) }
 
 pub returns : goal.returns
 returns g c =
     let wrote = c.write-marked.ensures in
     let noted = c.note_put.ensures in
     record {
-      held = wrote.held;
-      intact = wrote.intact;
-      group = refl;
-      n = refl;
+      keeps = (refl, refl, wrote.kept);
       obeys =
           put_served (code (g.G.Group.meaning c.args.self.now.group) c.args.self.now.n) (g.A.CellArray.cells c.args.self.now.array) c.args.«record» c.in_ok-found.found c.in_ok-found.ensures
           c.args.value (omega arith) (members_of c.in-Some.plan)

@@ -23,7 +23,7 @@ returns-then-is_some g c =
     renew_fits co m c.args.«record» found known c.args.value (omega arith)
     (found_plan co (open_cells co m c.args.«record» found known) (step co.group found.value c.args.value) c.plan_to.result
     (sym c.is_some.ensures ∙ c.if-is_some.true) c.plan_to.ensures) in
-    record { held = refl; intact = λ whole. whole; group = refl; n = refl; obeys = (fits, refl, refl) }
+    record { keeps = (refl, refl, (refl, λ whole. whole)); obeys = (fits, refl, refl) }
 
 pub returns-in_default : goal.returns-in_default
 returns-in_default g c =
@@ -35,7 +35,7 @@ returns-in_default g c =
     renew_unreached co m c.args.«record» found known c.args.value (omega arith)
     (no_plan co (open_cells co m c.args.«record» found known) (step co.group found.value c.args.value) c.plan_to.result
     (sym c.is_some.ensures ∙ c.if-is_some.false) c.plan_to.ensures) c.in_default.ensures in
-    record { held = refl; intact = λ whole. whole; group = refl; n = refl; obeys = (far, refl, refl) }
+    record { keeps = (refl, refl, (refl, λ whole. whole)); obeys = (far, refl, refl) }
 
 pub returns-in_err-located_at : goal.returns-in_err-located_at
 returns-in_err-located_at g c =
@@ -55,10 +55,7 @@ returns-in_err-located_at g c =
     (no_plan co (open_cells co m c.args.«record» found known) (step co.group found.value c.args.value) c.plan_to.result
     (sym c.is_some.ensures ∙ c.if-is_some.false) c.plan_to.ensures) c.in-Some.plans.plans c.in-Some.ensures.1 why.0 in
     record {
-      held = erased.held;
-      intact = erased.intact;
-      group = refl;
-      n = refl;
+      keeps = (refl, refl, (erased.held, erased.intact));
       obeys =
           let p = err_from_is_err_and c.from_residual-in_err-located_at.result c.from_residual-in_err-located_at.ensures.1 in
           rw (p.1, p.2) (
@@ -101,10 +98,7 @@ returns g c =
     let wrote = c.write_page-marked.ensures in
     let noted = c.note_renewal.ensures in
     record {
-      held = wrote.held ∙ erased.held;
-      intact = λ whole. wrote.intact (erased.intact whole);
-      group = refl;
-      n = refl;
+      keeps = (refl, refl, (wrote.kept.0 ∙ erased.held, λ whole. wrote.kept.1 (erased.intact whole)));
       obeys =
           renew_served co m c.args.«record» found known c.args.value (omega arith)
           (no_plan co (open_cells co m c.args.«record» found known) (step co.group found.value c.args.value) c.plan_to.result
