@@ -53,9 +53,6 @@ impl<T, F, P: Drop> Locate<T, F, P> for Result<T, F> {
     ghost answer = { λ r. r };
 
     fn located_at(self, place: P) -> Result<T, (P, F)> {
-        match self {
-            Ok(value) => Ok(value),
-            Err(fault) => Err((place, fault)),
-        }
+        self.map_err(|fault| (place, fault))
     }
 }

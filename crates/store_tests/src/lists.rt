@@ -76,7 +76,7 @@ fn lists_and_calls_on_one_store(rt: HostRuntime) -> Result<(), Fail> {
         Access::Get { record: 41 },
     ];
     assert_eq!(rt;
-        store.apply_accesses(rt.alloc(), &accesses)?.as_slice(),
+        store.apply(rt.alloc(), &accesses)?.as_slice(),
         [Ok(2), Ok(0)].as_slice()
     );
     assert_eq!(rt; store.ledger(), ledger(2, 0, 3));

@@ -44,31 +44,26 @@ fn first_of_each<C: Copy + Drop>(
     heap: Global,
     cases: &[(C, Answer)],
 ) -> Result<Vec<C>, AllocError> {
-    let mut calls = Vec::new(heap);
-    for (call, _) in cases {
-        calls.push(*call)?;
-    }
-    Ok(calls)
+    cases.iter().map(|case| case.0).collect(heap)
 }
 
 fn check_run<C>(rt: &impl Abort, run: Run, cases: &[(C, Answer)]) -> Ledger {
     assert_eq!(rt; run.answers.len(), cases.len(), "an answer to each call");
-    for i in 0..cases.len() {
-        let (_, expected) = &cases[i];
-        assert_eq!(rt; run.answers.get(i), Some(expected), "call {i}");
+    for (i, (answer, case)) in run.answers.iter().zip(cases).enumerate() {
+        assert_eq!(rt; *answer, case.1, "call {i}");
     }
     run.ledger
 }
 
 // The set cells of a page, in rising order.
-pub fn set_cells<A: CellArray>(heap: Global, array: &A, page: usize) -> Result<Vec<usize>, Fail> {
-    let mut cells = Vec::new(heap);
-    for cell in 0..array.width() {
-        if array.look(page, cell)? {
-            cells.push(cell)?;
-        }
-    }
-    Ok(cells)
+pub fn set_cells<A: CellArray>(
+    heap: Global,
+    array: &A,
+    page: usize,
+) -> Result<Vec<usize>, AllocError> {
+    (0..array.width())
+        .filter(|cell| array.is_set(page, *cell))
+        .collect(heap)
 }
 
 // That these and no other cells of a page are set, and that the page has this wear.
