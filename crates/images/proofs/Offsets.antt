@@ -9,10 +9,6 @@ use Rattle.cells.specs.Device.{cell_rows}
 use Rattle.images.specs.Image.{page_bytes, page_at, size, cells_at, fits, part_cells}
 use Rattle.images.specs.Bytes.{Finds}
 
--- a place within one of h blocks of w
-pub within : (p w j h : ℕ) → p < h → j < w → p * w + j < h * w
-within p w j h a b = omega (arith, mul-add-lt p w j h a b)
-
 -- places in blocks of w are the same only where block and place are
 pub same_block : (p q w i j : ℕ) → i < w → j < w → q * w + j ≡ p * w + i → q ≡ p
 same_block p q w i j a b e = sym (div-mul-add q w j b) ∙ ap (λ n. n / w) e ∙ div-mul-add p w i a
@@ -47,5 +43,5 @@ module _ (f : Format) (l : Layout) (xs : List ℕ) where
       let s = shown (fits f l xs) l.pages p (omega (arith, there.0)) in
       let t = shown (fits f l xs) l.width i (omega (arith, there.1.0)) in
       let room = suffices s.0 in
-      let inside = within p (page_bytes l.width) (i / 8) l.pages s.1 (byte_within l.width i t.1) in
+      let inside = mul-add-lt p (page_bytes l.width) (i / 8) l.pages s.1 (byte_within l.width i t.1) in
       (there, e, room, omega arith)

@@ -1,6 +1,6 @@
 -- What is written is read back, and is accepted by the check. Assumes nothing.
 use Rattle.std.proofs.Common.{◌≡◌, ℕ, ◌+◌, ◌*◌, ◌/◌, ◌%◌, ◌<◌, ◌≤◌, ◌&&◌, eqb, ltb, List, get_or, sym, refl, ap, ◌∙◌, ap₂, add_assoc, arith}
-use Rattle.std.proofs.lemmas.Nat.{div-mul-add, mod-mul-add}
+use Rattle.std.proofs.lemmas.Nat.{mul-add-lt, div-mul-add, mod-mul-add}
 use Rattle.std.proofs.lemmas.Bool.{lt-ltb, le-ltb, and_left, both_ways}
 use Rattle.images.specs.declared.format.Format.{Format}
 use Rattle.images.specs.declared.format.Format.TheVariants.{Fuse, Flash}
@@ -9,7 +9,6 @@ use Rattle.cells.specs.Rows.{Served}
 use Rattle.images.specs.Image.{count_bytes, limit_of, bit, set_bit, width_at, pages_at, page_bytes, page_at, width_of, count_of, wear_of, cells_at, decoded}
 use Rattle.images.specs.Check.{image_rows, Stray}
 use Rattle.images.specs.Written.{Writable, digit, bit_for, page_byte, written}
-use Rattle.images.proofs.Offsets.{within}
 use Rattle.images.proofs.ByteBits.{bit_of_byte, bit_for_small, bit_for_reads, four_digits}
 use Rattle.images.proofs.Writing.{written_length, written_pages, written_count, written_width_high, written_width_low, written_page}
 use Rattle.images.proofs.Good.{good_served}
@@ -56,7 +55,8 @@ module _ (f : Format) (m : Cells) (ok : Writable f m) where
   bit_back p i h lt =
       let w = page_bytes m.width in
       let j : i / 8 < page_bytes m.width = omega arith in
-      let place = within p (page_bytes m.width) (i / 8) m.pages h j in
+      let place : p * page_bytes m.width + i / 8 < m.pages * page_bytes m.width =
+      omega (arith, mul-add-lt p (page_bytes m.width) (i / 8) m.pages h j) in
       let byte : get_or xs (page_at f m.pages m.width p + i / 8) 0 ≡ page_byte f m p (i / 8) =
       ap (λ n. get_or xs n 0) (add_assoc (pages_at f m.pages) (p * w) (i / 8))
       ∙ written_page f m (p * w + i / 8) place

@@ -21,7 +21,8 @@ impl Format {
         self.read_layout(image)
     }
 
-    // The layout of an accepted image, and none at all of a refused one.
+    // The layout of an accepted image, and none at all of a refused one. The rules give that no pages and no width, so
+    // it is a layout too, and no `Option`.
     pub(crate) fn layout_of(self, image: &[u8]) -> Layout
         ensures { ReadsAs self image.now result }
     {
@@ -121,7 +122,7 @@ fn read_pages(image: &[u8]) -> Result<u8, ImageFault>
     Ok(*pages)
 }
 
-// The wear counts of a flash image, each one's bytes and then its row.
+// The wear counts of a flash image, each one's bytes and then its row. A loop, since two refusals take turns.
 fn check_counts(image: &[u8], pages: u8) -> Result<(), ImageFault>
     ensures { Passes (counts_rows image.now pages) (λ _. Unit {0}) result }
 {

@@ -40,7 +40,7 @@ impl Format {
         let mask = 1u8 << k;
         match self {
             Format::Fuse => byte | mask,
-            Format::Flash => byte & (255 - mask),
+            Format::Flash => byte & !mask,
         }
     }
 }

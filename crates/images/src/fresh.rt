@@ -23,6 +23,7 @@ pub fn fresh_flash(heap: Global, pages: usize, width: usize) -> Result<Vec<u8>, 
     Ok(unset_image(heap, Layout { pages, width })?)
 }
 
+// Both casts are proved to lose nothing; a `try_from` would add a refusal that never comes.
 fn unset_image(heap: Global, layout: Layout) -> Result<Vec<u8>, AllocError>
     ensures { IfOk result (λ v. v.items ≡ written Flash (blank layout.pages layout.width)) }
 {
