@@ -19,19 +19,15 @@ use std::io;
 use store::run::run_calls;
 
 fn main(rt: HostRuntime) -> anyhow::Result<()> {
-    run(&rt)
-}
-
-fn run(rt: &HostRuntime) -> anyhow::Result<()> {
     println!(rt; "bench part")?;
     let mut bench = Bench::new();
-    show_run(rt, &mut bench, &UNTIL_WORN)?;
+    show_run(&rt, &mut bench, &UNTIL_WORN)?;
     println!(rt; "flash image of one page of 12 cells")?;
     let Ok(mut image) = fresh_flash(rt.alloc(), 1, 12) else {
         return Err(anyhow!("no memory for the image"));
     };
     let mut flash = FlashPart::over(&mut image);
-    show_run(rt, &mut flash, &WITH_A_NEIGHBOUR)
+    show_run(&rt, &mut flash, &WITH_A_NEIGHBOUR)
 }
 
 // Makes a store over the array, applies the calls to it, and prints what they did.
