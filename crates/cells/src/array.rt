@@ -3,7 +3,7 @@
 ghost use Rattle.std.specs.Prelude.{◌≡◌, List};
 ghost use Rattle.std.specs.Borrow.{GName};
 ghost use Rattle.cells.specs.Cells.{Cells, Bounded, is_set};
-ghost use Rattle.cells.specs.Device.{FindsPage, FindsCell, Looks, Marks, Wears, Erases};
+ghost use Rattle.cells.specs.Device.{FindsPage, FindsCell, Kept, Looks, Marks, Wears, Erases};
 
 use crate::fault::DeviceFault;
 
@@ -65,8 +65,7 @@ pub trait CellArray {
     }
 
     fn mark(&mut self, page: usize, cell: usize) -> Result<(), DeviceFault>
-        ensures held { held self.new ≡ held self.old }
-        ensures intact { intact self.old → intact self.new }
+        ensures kept { Kept held intact self.old self.new }
         ensures marks { Marks page cell (cells self.old) (cells self.new) result };
 }
 
@@ -77,7 +76,6 @@ pub trait Erasable: CellArray {
         ensures { Wears (Self.CellArray.cells self.now) page result };
 
     fn erase(&mut self, page: usize) -> Result<(), DeviceFault>
-        ensures held { Self.CellArray.held self.new ≡ Self.CellArray.held self.old }
-        ensures intact { Self.CellArray.intact self.old → Self.CellArray.intact self.new }
+        ensures kept { Kept Self.CellArray.held Self.CellArray.intact self.old self.new }
         ensures erases { Erases page (Self.CellArray.cells self.old) (Self.CellArray.cells self.new) result };
 }

@@ -1,7 +1,7 @@
 // The paired part: each of its cells stands on two cells of any array below, and is set when either of them is.
 // It can be erased where the array below can.
 ghost use Rattle.std.specs.Prelude.{◌≡◌, ◌*◌};
-ghost use Rattle.cells.specs.Device.{Marks, Erases};
+ghost use Rattle.cells.specs.Device.{Kept, Marks, Erases};
 ghost use Rattle.cells.specs.Paired.{paired_cells, paired_bounded, MarksBoth};
 
 use crate::array::{CellArray, Erasable};
@@ -53,8 +53,7 @@ impl<A: CellArray> CellArray for Paired<A> {
     }
 
     fn mark(&mut self, page: usize, cell: usize) -> Result<(), DeviceFault>
-        ensures held { A.CellArray.held self.new.array ≡ A.CellArray.held self.old.array }
-        ensures intact { A.CellArray.intact self.old.array → A.CellArray.intact self.new.array }
+        ensures kept { Kept A.CellArray.held A.CellArray.intact self.old.array self.new.array }
         ensures marks { Marks page cell (paired_cells (A.CellArray.cells self.old.array)) (paired_cells (A.CellArray.cells self.new.array)) result }
         ensures both { MarksBoth page cell (A.CellArray.cells self.old.array) (A.CellArray.cells self.new.array) result }
     {
@@ -71,8 +70,7 @@ impl<A: Erasable> Erasable for Paired<A> {
     }
 
     fn erase(&mut self, page: usize) -> Result<(), DeviceFault>
-        ensures held { A.CellArray.held self.new.array ≡ A.CellArray.held self.old.array }
-        ensures intact { A.CellArray.intact self.old.array → A.CellArray.intact self.new.array }
+        ensures kept { Kept A.CellArray.held A.CellArray.intact self.old.array self.new.array }
         ensures erases { Erases page (paired_cells (A.CellArray.cells self.old.array)) (paired_cells (A.CellArray.cells self.new.array)) result }
         ensures below { Erases page (A.CellArray.cells self.old.array) (A.CellArray.cells self.new.array) result }
     {

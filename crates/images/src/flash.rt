@@ -2,7 +2,7 @@
 // A set cell is a 0 bit. An erase writes the page's own bytes and its wear count, whose limit is 10,000.
 ghost use Rattle.std.specs.Prelude.{◌≡◌, ◌+◌, ◌*◌, ◌<◌, [], ◌∷◌, length, replicate};
 ghost use Rattle.images.specs.declared.format.Format.TheVariants.{Flash as FlashFormat};
-ghost use Rattle.cells.specs.Device.{Erases};
+ghost use Rattle.cells.specs.Device.{Erases, Kept};
 ghost use Rattle.images.specs.Image.{count_of, part_cells};
 ghost use Rattle.images.specs.Check.{Accepted};
 ghost use Rattle.images.specs.Bytes.{ErasesBytes};
@@ -33,8 +33,7 @@ impl Erasable for Part<'_, Flash> {
     }
 
     fn erase(&mut self, page: usize) -> Result<(), DeviceFault>
-        ensures held { self.new.image.ghost_name ∷ [] ≡ self.old.image.ghost_name ∷ [] }
-        ensures intact { Accepted FlashFormat self.old.layout self.old.image.now → Accepted FlashFormat self.new.layout self.new.image.now }
+        ensures kept { Kept (λ a. a.image.ghost_name ∷ []) (λ a. Accepted FlashFormat a.layout a.image.now) self.old self.new }
         ensures erases { Erases page (part_cells FlashFormat self.old.layout self.old.image.now) (part_cells FlashFormat self.new.layout self.new.image.now) result }
         ensures layout { self.new.layout ≡ self.old.layout }
         ensures bytes { ErasesBytes self.old.layout page self.old.image.now self.new.image.now result }

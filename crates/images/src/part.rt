@@ -2,7 +2,7 @@
 // A mark alters one bit.
 ghost use Rattle.std.specs.Prelude.{◌≡◌, [], ◌∷◌};
 ghost use Rattle.images.specs.declared.format.Format.{Format};
-ghost use Rattle.cells.specs.Device.{Marks};
+ghost use Rattle.cells.specs.Device.{Kept, Marks};
 ghost use Rattle.images.specs.Image.{part_cells, part_bounded};
 ghost use Rattle.images.specs.Check.{Accepted, ReadsAs};
 ghost use Rattle.images.specs.Bytes.{Finds, MarksBytes};
@@ -75,8 +75,7 @@ impl<K: Kind> CellArray for Part<'_, K> {
     }
 
     fn mark(&mut self, page: usize, cell: usize) -> Result<(), DeviceFault>
-        ensures held { self.new.image.ghost_name ∷ [] ≡ self.old.image.ghost_name ∷ [] }
-        ensures intact { Accepted K.FORMAT self.old.layout self.old.image.now → Accepted K.FORMAT self.new.layout self.new.image.now }
+        ensures kept { Kept (λ a. a.image.ghost_name ∷ []) (λ a. Accepted K.FORMAT a.layout a.image.now) self.old self.new }
         ensures marks { Marks page cell (part_cells K.FORMAT self.old.layout self.old.image.now) (part_cells K.FORMAT self.new.layout self.new.image.now) result }
         ensures layout { self.new.layout ≡ self.old.layout }
         ensures bytes { MarksBytes K.FORMAT self.old.layout page cell self.old.image.now self.new.image.now result }

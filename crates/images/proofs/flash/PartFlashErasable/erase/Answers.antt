@@ -36,8 +36,7 @@ returns c =
     (c.fill.ensures ∙ ap (λ m. replicate m 255) (length-between xs _ _ (omega arith))) (omega arith) (omega arith)
     (c.copy_from_slice.ensures.after ∙ c.to_be_bytes.ensures) (omega arith) in
     record {
-      held = refl;
-      intact = erase_intact l c.args.page xs ys there.1 (omega arith) bytes;
+      kept = (refl, erase_intact l c.args.page xs ys there.1 (omega arith) bytes);
       erases = ((worn.0.0, (λ most. omega arith, tt)), part_erased l c.args.page xs ys there.0 there.1 (omega arith) bytes);
       layout = refl;
       bytes = bytes;

@@ -55,7 +55,7 @@ returns-in_err-located_at g c =
     (no_plan co (open_cells co m c.args.«record» found known) (step co.group found.value c.args.value) c.plan_to.result
     (sym c.is_some.ensures ∙ c.if-is_some.false) c.plan_to.ensures) c.in-Some.plans.plans c.in-Some.ensures.1 why.0 in
     record {
-      keeps = (refl, refl, (erased.held, erased.intact));
+      keeps = (refl, refl, erased.kept);
       obeys =
           let p = err_from_is_err_and c.from_residual-in_err-located_at.result c.from_residual-in_err-located_at.ensures.1 in
           rw (p.1, p.2) (
@@ -98,7 +98,7 @@ returns g c =
     let wrote = c.write_page-marked.ensures in
     let noted = c.note_renewal.ensures in
     record {
-      keeps = (refl, refl, (wrote.kept.0 ∙ erased.held, λ whole. wrote.kept.1 (erased.intact whole)));
+      keeps = (refl, refl, (wrote.kept.0 ∙ erased.kept.0, λ whole. wrote.kept.1 (erased.kept.1 whole)));
       obeys =
           renew_served co m c.args.«record» found known c.args.value (omega arith)
           (no_plan co (open_cells co m c.args.«record» found known) (step co.group found.value c.args.value) c.plan_to.result
