@@ -21,16 +21,15 @@ unfolding placed
 placed_none column ps e = ap (placed column) e
 
 -- what follows a command is nothing, or a space and words
-pub opens_empty : (rest : List ℕ) (ws : Words) → length rest ≤ 0 → left ws.pieces ≡ [] → ws.pieces.bytes.now ≡ [] → Opens rest (Some ws)
-opens_empty [] ws h none bytes = ((λ u. u), placed_none (ws.pieces.at + 3) (left ws.pieces) none, (let e = ap length bytes in omega arith))
-opens_empty (b ∷ rest) ws h none bytes = absurd (omega arith)
+pub opens_empty : (rest : List ℕ) (ws : Words) → length rest ≤ 0 → left ws.pieces ≡ [] → Opens rest (Some ws)
+opens_empty [] ws h none = ((λ u. u), placed_none (ws.pieces.at + 3) (left ws.pieces) none)
+opens_empty (b ∷ rest) ws h none = absurd (omega arith)
 
 pub opens_spaced :
     (rest : List ℕ) (ws : Words) → 0 < length rest → get_or rest 0 0 ≡ 32 → left ws.pieces ≡ cut 32 (rest_of rest) →
-    ws.pieces.at ≡ 0 → ws.pieces.bytes.now ≡ rest_of rest → Opens rest (Some ws)
-opens_spaced rest ws some space pieces at bytes =
+    ws.pieces.at ≡ 0 → Opens rest (Some ws)
+opens_spaced rest ws some space pieces at =
     subst (λ xs. Opens xs (Some ws)) (sym (first_rest rest some)) (
       (λ other. other space),
       ap (λ a. placed (a + 3) (left ws.pieces)) at ∙ ap (placed 3) pieces,
-      (let e = ap length bytes in omega arith),
     )

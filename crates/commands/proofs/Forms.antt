@@ -7,7 +7,7 @@ use Rattle.commands.specs.declared.head.Head.{Head}
 use Rattle.commands.specs.declared.fault.Refusal.{Refusal}
 use Rattle.commands.specs.Faults.{line_number}
 use Rattle.commands.specs.Orders.{Foreign, Miscounted, head_words, count_spot, form_spots, Has, Heads, Begins, Reading}
-use Rattle.commands.proofs.Beginnings.{rest_of, first_rest, rest_length}
+use Rattle.commands.proofs.Beginnings.{rest_of, first_rest}
 
 pub line_begins :
     (l : List ℕ) (o : Opening) → 0 < length l → length l ≤ 80 → o.letter ≡ get_or l 0 0 → Opens (rest_of l) (Some o.words) → Begins l o
@@ -16,7 +16,6 @@ line_begins l o some short letter opens =
       length = short;
       has = subst (λ xs. Has xs o.letter (words_left o.words)) (sym (first_rest l some)) (sym letter, sym opens.1);
       familiar = λ takes known foreign. go takes known (subst (Foreign takes) (first_rest l some) foreign);
-      short = let shorter = opens.2 in let whole = rest_length l some in omega arith;
     }
   where
     go : (takes : ℕ → Option ℕ) → (takes o.letter ≡ None → ⊥) → Foreign takes (get_or l 0 0 ∷ rest_of l) → ⊥

@@ -13,7 +13,7 @@ use Rattle.commands.specs.declared.head.Head.{Head}
 use Rattle.commands.specs.Spots.{Spot, spot, Stopped, Passed}
 use Rattle.commands.specs.declared.opening.Opening.{Opening}
 use Rattle.commands.specs.declared.word.Word.{Word}
-use Rattle.commands.specs.Words.{Unspaced, Short, line_words, word_of, head_words_of, words_left}
+use Rattle.commands.specs.Words.{Unspaced, line_words, word_of, head_words_of, words_left}
 use Rattle.commands.specs.Faults.{line_number}
 use Rattle.commands.specs.Groups.{SmallGroup, SpellsGroup, group_spelt}
 
@@ -144,7 +144,6 @@ pub record Begins (l : List ℕ) (o : Opening) : Type 0 where
   pub length : length l ≤ 80
   pub has : Has l o.letter (words_left o.words)
   pub familiar : (takes : ℕ → Option ℕ) → (takes o.letter ≢ None) → Foreign takes l → ⊥
-  pub short : Short o.words
 
 abbrev pub OpensLine : List ℕ → Result Opening Refusal → Type 0
 OpensLine l (Ok o) = Begins l o

@@ -1,6 +1,6 @@
 -- The words of a line: the pieces between the spaces after its command, each with the column of its first byte.
 -- Assumes nothing.
-use Rattle.std.specs.Prelude.{◌≡◌, ℕ, ◌+◌, ◌≤◌, List, [], ◌∷◌, length, Some, None, Option}
+use Rattle.std.specs.Prelude.{◌≡◌, ℕ, ◌+◌, List, [], ◌∷◌, length, Some, None, Option}
 use Rattle.scan.specs.Pieces.{cut, left}
 use Rattle.commands.specs.declared.head.Head.{Head}
 use Rattle.commands.specs.declared.word.Word.{Word}
@@ -38,10 +38,6 @@ head_words_of h = word_of h.group ∷ (word_of h.n ∷ (word_of h.pages ∷ (wor
 abbrev pub words_left : Words → List (List ℕ × ℕ)
 words_left ws = placed (ws.pieces.at + 3) (left ws.pieces)
 
--- they are part of a line of at most 80 bytes
-abbrev pub Short : Words → Type 0
-Short ws = length ws.pieces.bytes.now ≤ 80
-
 -- the next word is taken, or none is left
 abbrev pub NextWord : Words → Option Word → Words → Type 0
 NextWord s (Some w) t = words_left s ≡ word_of w ∷ words_left t
@@ -49,5 +45,5 @@ NextWord s None t = words_left s ≡ []
 
 -- the words of what follows a command, or none where no space follows it
 abbrev pub Opens : List ℕ → Option Words → Type 0
-Opens rest (Some ws) = (Unspaced rest → ⊥) × (words_left ws ≡ words_after rest) × (length ws.pieces.bytes.now ≤ length rest)
+Opens rest (Some ws) = (Unspaced rest → ⊥) × (words_left ws ≡ words_after rest)
 Opens rest None = Unspaced rest

@@ -20,11 +20,11 @@ impl GroupWord {
         ensures { ReadsGroup bytes.now result }
     {
         let mut pieces = Pieces::of(bytes, b'.');
-        let first = Factor::read(pieces.next_piece()?.bytes)?;
-        let Some(second) = pieces.next_piece() else {
+        let first = Factor::read(pieces.next()?.bytes)?;
+        let Some(second) = pieces.next() else {
             return Some(GroupWord::One(first));
         };
-        if pieces.next_piece().is_some() {
+        if pieces.next().is_some() {
             return None;
         }
         Some(GroupWord::Two(first, Factor::read(second.bytes)?))

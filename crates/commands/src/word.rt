@@ -2,7 +2,7 @@
 // A line's words are taken one after another, and their number is that of its command.
 ghost use Rattle.std.specs.Prelude.{◌≡◌, [], ◌∷◌};
 ghost use Rattle.commands.specs.declared.fault.LineFault.TheVariants.{Count};
-ghost use Rattle.commands.specs.Words.{word_of, head_words_of, words_left, Short, NextWord, Opens};
+ghost use Rattle.commands.specs.Words.{word_of, head_words_of, words_left, NextWord, Opens};
 ghost use Rattle.commands.specs.Orders.{number_spot, group_spot, count_spot, Numbers, Reading};
 ghost use Rattle.commands.specs.Groups.{SpellsGroup};
 
@@ -79,11 +79,9 @@ impl<'a> Words<'a> {
     }
 
     fn next_word(&mut self) -> Option<Word<'a>>
-        requires { Short self.old }
-        ensures short { Short self.new }
-        ensures next { NextWord self.old result self.new }
+        ensures { NextWord self.old result self.new }
     {
-        let piece = self.pieces.next_piece()?;
+        let piece = self.pieces.next()?;
         Some(Word {
             bytes: piece.bytes,
             column: piece.at + FIRST_COLUMN,
@@ -92,7 +90,6 @@ impl<'a> Words<'a> {
 
     // That there is no word. A refusal names the column past the line.
     pub(crate) fn none(mut self, past: usize) -> Result<(), Refusal>
-        requires { Short self }
         ensures { Reading (count_spot (words_left self.entry) 0 past ∷ []) (λ _. words_left self.entry ≡ []) result }
     {
         match self.next_word() {
@@ -103,7 +100,6 @@ impl<'a> Words<'a> {
 
     // The only word.
     pub(crate) fn one(mut self, past: usize) -> Result<Word<'a>, Refusal>
-        requires { Short self }
         ensures { Reading (count_spot (words_left self.entry) 1 past ∷ []) (λ w. words_left self.entry ≡ word_of w ∷ []) result }
     {
         let Some(word) = self.next_word() else {
@@ -115,7 +111,6 @@ impl<'a> Words<'a> {
 
     // The only two words.
     pub(crate) fn two(mut self, past: usize) -> Result<(Word<'a>, Word<'a>), Refusal>
-        requires { Short self }
         ensures { Reading (count_spot (words_left self.entry) 2 past ∷ []) (λ ws. words_left self.entry ≡ word_of ws.0 ∷ (word_of ws.1 ∷ [])) result }
     {
         let Some(first) = self.next_word() else {
@@ -127,7 +122,6 @@ impl<'a> Words<'a> {
 
     // The only four words.
     pub(crate) fn four(mut self, past: usize) -> Result<Head<'a>, Refusal>
-        requires { Short self }
         ensures { Reading (count_spot (words_left self.entry) 4 past ∷ []) (λ h. words_left self.entry ≡ head_words_of h) result }
     {
         let Some(group) = self.next_word() else {

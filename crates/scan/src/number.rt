@@ -10,13 +10,13 @@ const MAX_DIGITS: usize = 9;
 pub fn read_number(word: &[u8]) -> Option<u32>
     ensures { Reads word.now result }
 {
-    if word.is_empty() || word.len() > MAX_DIGITS {
+    if word.len() > MAX_DIGITS {
         return None;
     }
-    if word.len() > 1 && word[0] == b'0' {
-        return None;
+    match word {
+        [] | [b'0', _, ..] => None,
+        digits => read_digits(digits),
     }
-    read_digits(word)
 }
 
 // The number that digits write, or none where a byte is no digit.

@@ -1,7 +1,8 @@
 // Bytes cut into pieces at a separator byte, one piece at a time, each with its place.
 // There is always at least one piece, and a piece may be empty.
-ghost use Rattle.std.specs.Prelude.{◌≡◌, ◌≤◌, [], length};
-ghost use Rattle.scan.specs.Pieces.{cut, CutLaw, left, Nexts, Ends};
+ghost use Rattle.std.specs.Prelude.{◌≡◌, ◌≤◌, ◌^◌, ◌==◌, length};
+ghost use Rattle.std.specs.List.{position_or_len};
+ghost use Rattle.scan.specs.Rest.{reach};
 
 // A piece, with the place of its first byte in what was cut.
 #[derive(Clone, Copy)]
@@ -10,25 +11,29 @@ pub struct Piece<'a> {
     pub at: usize,
 }
 
-// What is left to cut: the bytes from `at` on, and nothing once `at` is past the end.
+// What is left to cut, which begins at `at`, or nothing once the last piece is taken.
 #[derive(Drop)]
 pub struct Pieces<'a> {
-    bytes: &'a [u8],
+    rest: Option<&'a [u8]>,
     at: usize,
     separator: u8,
+    ghost countable: { reach at rest ≤ 2 ^ 63 },
 }
 
 impl<'a> Pieces<'a> {
+    ghost use Rattle.std.specs.Prelude.{◌+◌, [], length};
+    ghost use Rattle.scan.specs.Pieces.{cut, CutLaw, left};
+
     // All the pieces are left.
     pub fn of(bytes: &'a [u8], separator: u8) -> Pieces<'a>
         ensures left { left result ≡ cut separator bytes.now }
-        ensures bytes { result.bytes.now ≡ bytes.now }
+        ensures reach { reach result.at result.rest ≡ length bytes.now + 1 }
         ensures at { result.at ≡ 0 }
         ensures separator { result.separator ≡ separator }
         ensures law { CutLaw }
     {
         Pieces {
-            bytes,
+            rest: Some(bytes),
             at: 0,
             separator,
         }
@@ -37,41 +42,47 @@ impl<'a> Pieces<'a> {
     // No piece is left.
     pub fn none(separator: u8) -> Pieces<'a>
         ensures left { left result ≡ [] }
-        ensures bytes { result.bytes.now ≡ [] }
+        ensures reach { reach result.at result.rest ≡ 0 }
     {
         Pieces {
-            bytes: &[],
-            at: 1,
+            rest: None,
+            at: 0,
             separator,
         }
     }
+}
 
-    // The next piece, or none where all are taken.
-    pub fn next_piece(&mut self) -> Option<Piece<'a>>
-        ensures { Nexts self.old result self.new }
-    {
+// The next piece, or none where all are taken.
+impl<'a> Iterator for Pieces<'a> {
+    ghost use Rattle.std.specs.Iterator.{item_count};
+    ghost use Rattle.scan.specs.Pieces.{left, Nexts};
+
+    type Item = Piece<'a>;
+
+    ghost next_gives = { Nexts };
+
+    ghost remaining = { item_count left };
+
+    fn next(&mut self) -> Option<Piece<'a>> {
+        let rest = self.rest?;
         let at = self.at;
-        if at > self.bytes.len() {
-            return None;
-        }
-        let end = end_of(self.bytes, at, self.separator);
-        self.at = end + 1;
+        let end = end_of(rest, self.separator);
+        self.rest = rest.get(end + 1..);
+        self.at = at + end + 1;
         Some(Piece {
-            bytes: &self.bytes[at..end],
+            bytes: &rest[..end],
             at,
         })
     }
 }
 
-// The end of the piece that begins at `from`.
-fn end_of(bytes: &[u8], from: usize, separator: u8) -> usize
-    requires { from ≤ length bytes.now }
-    ensures { Ends bytes.now from separator result }
+// The end of the first piece.
+fn end_of(bytes: &[u8], separator: u8) -> usize
+    ensures first { result ≡ position_or_len (λ b. b == separator) bytes.now }
+    ensures within { result ≤ length bytes.now }
 {
-    for i in from..bytes.len() {
-        if bytes[i] == separator {
-            return i;
-        }
-    }
-    bytes.len()
+    bytes
+        .iter()
+        .position(|b| *b == separator)
+        .unwrap_or(bytes.len())
 }

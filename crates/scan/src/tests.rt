@@ -9,12 +9,12 @@ use std::test::Fail;
 fn check_pieces(rt: &impl Abort, bytes: &[u8], expected: &[(usize, &[u8])]) -> Result<(), Fail> {
     let mut pieces = Pieces::of(bytes, b' ');
     for (at, piece) in expected {
-        let found = pieces.next_piece().ok_or("too few pieces")?;
+        let found = pieces.next().ok_or("too few pieces")?;
         assert_eq!(rt; found.at, *at);
         assert_eq!(rt; found.bytes, *piece);
     }
-    assert!(rt; pieces.next_piece().is_none());
-    assert!(rt; pieces.next_piece().is_none());
+    assert!(rt; pieces.next().is_none());
+    assert!(rt; pieces.next().is_none());
     Ok(())
 }
 

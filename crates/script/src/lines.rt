@@ -1,8 +1,6 @@
 // The lines of a script that are not empty, one after another, each with its number.
 // Empty lines are passed over, and counted.
-ghost use Rattle.std.specs.Prelude.{◌≡◌, ◌≤◌, length};
-ghost use Rattle.scan.specs.Pieces.{cut};
-ghost use Rattle.script.specs.Lines.{numbered, lines_left, Countable, NextLine};
+ghost use Rattle.std.specs.Prelude.{◌≤◌};
 
 use scan::pieces::Pieces;
 
@@ -15,28 +13,39 @@ pub(crate) struct Line<'a> {
 // What is left of a script, and the number of the last line that was taken.
 #[derive(Drop)]
 pub(crate) struct Lines<'a> {
-    pub(crate) pieces: Pieces<'a>,
-    pub(crate) number: usize,
+    pieces: Pieces<'a>,
+    number: usize,
+    // a line takes up a place at least
+    ghost behind: { number ≤ pieces.at },
 }
 
 impl<'a> Lines<'a> {
+    ghost use Rattle.std.specs.Prelude.{◌≡◌};
+    ghost use Rattle.scan.specs.Pieces.{cut};
+    ghost use Rattle.script.specs.Lines.{numbered, lines_left};
+
     pub(crate) fn of(script: &'a [u8]) -> Lines<'a>
-        requires { length script.now ≤ 65535 }
-        ensures left { lines_left result ≡ numbered 1 (cut 10 script.now) }
-        ensures countable { Countable result }
+        ensures { lines_left result ≡ numbered 1 (cut 10 script.now) }
     {
         Lines {
             pieces: Pieces::of(script, b'\n'),
             number: 0,
         }
     }
+}
 
-    pub(crate) fn next_line(&mut self) -> Option<Line<'a>>
-        requires { Countable self.old }
-        ensures countable { Countable self.new }
-        ensures next { NextLine self.old result self.new }
-    {
-        while let Some(piece) = self.pieces.next_piece() {
+impl<'a> Iterator for Lines<'a> {
+    ghost use Rattle.std.specs.Iterator.{YieldsFirstBy, item_count};
+    ghost use Rattle.script.specs.Lines.{line_of, lines_left};
+
+    type Item = Line<'a>;
+
+    ghost next_gives = { YieldsFirstBy line_of lines_left };
+
+    ghost remaining = { item_count lines_left };
+
+    fn next(&mut self) -> Option<Line<'a>> {
+        while let Some(piece) = self.pieces.next() {
             self.number += 1;
             if !piece.bytes.is_empty() {
                 return Some(Line {

@@ -3,7 +3,7 @@
 ghost use Rattle.std.specs.Prelude.{IfOk};
 ghost use Rattle.calls.specs.Calls.{state_of};
 ghost use Rattle.calls.specs.Ledger.{blank};
-ghost use Rattle.script.specs.Lines.{lines_left, Countable};
+ghost use Rattle.script.specs.Lines.{lines_left};
 ghost use Rattle.script.specs.Tells.{Answered};
 
 use crate::answer::answer_line;
@@ -20,10 +20,9 @@ pub(crate) fn answer_rest<G: Group + Drop, A: Erasable>(
     group: G,
     array: &mut A,
     n: usize,
-    lines: &mut Lines,
+    lines: Lines,
 ) -> Result<Vec<Reply>, AllocError>
-    requires { Countable lines.old }
-    ensures { IfOk result (λ v. Answered (G.Group.meaning group) n (state_of (A.CellArray.cells array.old) blank) (lines_left lines.old) v.items) }
+    ensures { IfOk result (λ v. Answered (G.Group.meaning group) n (state_of (A.CellArray.cells array.old) blank) (lines_left lines.entry) v.items) }
 {
     let mut store = Store::new(group, array, n);
     answer_lines(heap, &mut store, lines)
@@ -32,18 +31,16 @@ pub(crate) fn answer_rest<G: Group + Drop, A: Erasable>(
 fn answer_lines<G: Group, A: Erasable>(
     heap: Global,
     store: &mut Store<G, A>,
-    lines: &mut Lines,
+    lines: Lines,
 ) -> Result<Vec<Reply>, AllocError>
-    requires { Countable lines.old }
-    ensures { IfOk result (λ v. Answered (G.Group.meaning store.old.group) store.old.n (state_of (A.CellArray.cells store.old.array) store.old.ledger) (lines_left lines.old) v.items) }
+    ensures { IfOk result (λ v. Answered (G.Group.meaning store.old.group) store.old.n (state_of (A.CellArray.cells store.old.array) store.old.ledger) (lines_left lines.entry) v.items) }
 {
     let mut replies = Vec::new(heap);
     replies.push(Reply::Made {
         records: store.records(),
     })?;
-    while let Some(line) = lines.next_line() {
-        let reply = answer_line(store, line);
-        replies.push(reply)?;
+    for line in lines {
+        replies.push(answer_line(store, line))?;
     }
     Ok(replies)
 }

@@ -3,7 +3,7 @@
 ghost use Rattle.std.specs.Prelude.{◌≡◌, vec_items};
 ghost use Rattle.script.specs.declared.fault.Cause.TheVariants.{Line};
 ghost use Rattle.script.specs.declared.fault.Stop.TheVariants.{Fault};
-ghost use Rattle.script.specs.Lines.{lines_left, Countable};
+ghost use Rattle.script.specs.Lines.{lines_left};
 ghost use Rattle.script.specs.Script.{Opens, Answers};
 
 use crate::fault::{Cause, HeadPlace, ScriptFault, Stop};
@@ -29,7 +29,7 @@ pub(crate) fn start(heap: Global, script: &[u8]) -> Result<Vec<Reply>, Stop>
         return Err(at_the_start(LineFault::Size));
     }
     let mut lines = Lines::of(script);
-    let Some(head) = lines.next_line() else {
+    let Some(head) = lines.next() else {
         return Err(at_the_start(LineFault::Command));
     };
     let heading = Heading::read(head.bytes).located_at(head.number)?;
@@ -37,13 +37,12 @@ pub(crate) fn start(heap: Global, script: &[u8]) -> Result<Vec<Reply>, Stop>
         line: head.number,
         heading,
     };
-    open_store(heap, place, &mut lines)
+    open_store(heap, place, lines)
 }
 
 // Makes the part and the store of a heading, and answers the lines that are left.
-fn open_store(heap: Global, place: HeadPlace, lines: &mut Lines) -> Result<Vec<Reply>, Stop>
-    requires { Countable lines.old }
-    ensures { Opens vec_items place.line place.heading (lines_left lines.old) result }
+fn open_store(heap: Global, place: HeadPlace, lines: Lines) -> Result<Vec<Reply>, Stop>
+    ensures { Opens vec_items place.line place.heading (lines_left lines.entry) result }
 {
     let Heading {
         group,

@@ -1,26 +1,21 @@
-use Rattle.std.proofs.Common.{length, sym, ◌∙◌, inl, inr, arith}
-use Rattle.std.proofs.lemmas.Bool.{eqb-true, eqb-false}
+use Rattle.std.proofs.Common.{◌≡◌, ◌≤◌, get_or, length, arith, rules, ltb-false, ltb-true}
 use Rattle.scan.proofs.Spelling.{reads_digits, spelled_length, spelled_first}
 use Rattle.scan.proofs.number.read_number.Goals as goal
-use Rattle.scan.proofs.number.read_number.Goals.{else-word-gt1-via-then-word-gt1+else-word-eq48, else-word-gt1-via-else-word-gt1}
+use Rattle.scan.proofs.number.read_number.Goals.{in_default-via-then-word-lt2, in_default-via-else-word-lt2+in_default-1}
 
-pub returns-then-is_empty : goal.returns-then-is_empty
-returns-then-is_empty c n spells =
-    let long = spelled_length c.args.word.now n spells in
-    elim c.then-is_empty.either [
-      | inl empty ↦ omega (arith, eqb-true (length c.args.word.now) 0 (sym c.is_empty.ensures ∙ empty))
-      | inr more ↦ omega arith
-    ]
+pub returns-then-word-gt-MAX_DIGITS : goal.returns-then-word-gt-MAX_DIGITS
+returns-then-word-gt-MAX_DIGITS c n spells = let long = spelled_length c.args.word.now n spells in omega arith
 
-pub returns-then-word-eq48 : goal.returns-then-word-eq48
-returns-then-word-eq48 c n spells = omega (arith, spelled_first c.args.word.now n spells c.if-word-eq48.true)
+pub returns-in-empty : goal.returns-in-empty
+returns-in-empty c n spells = let some = spelled_length c.args.word.now n spells in omega arith
 
-pub returns : goal.returns
-returns c =
-    let some = eqb-false (length c.args.word.now) 0 (sym c.if-is_empty.ensures) in
+pub returns-in-empty-2 : goal.returns-in-empty-2
+returns-in-empty-2 c n spells =
+    let zero : get_or c.args.word.now 0 0 ≡ 48 = search rules in
+    omega (arith, spelled_first c.args.word.now n spells zero)
+
+pub returns-in_default : goal.returns-in_default
+returns-in_default c =
+    let some : 1 ≤ length c.args.word.now = omega (arith, ltb-false) in
     reads_digits c.args.word.now c.read_digits.result c.read_digits.ensures (omega arith) c.if-word-gt-MAX_DIGITS.false
-    (λ zero.
-    elim c.else-word-gt1.branch [
-      | else-word-gt1-via-then-word-gt1+else-word-eq48 w ↦ absurd (w.if-word-eq48.false zero)
-      | else-word-gt1-via-else-word-gt1 w ↦ omega (arith, w.if-word-gt1.false)
-    ])
+    (λ zero. grind (arith, ltb-true, ltb-false))

@@ -10,7 +10,6 @@ use Rattle.script.proofs.rest.answer_lines.Goals as goal
 
 pub loop-line-init : goal.loop-line-init
 loop-line-init g c = (
-  c.requires,
   refl,
   refl,
   progress_none _ _ _ _ _
@@ -23,15 +22,13 @@ loop-line-preserved g c =
     let co = code (g.G.Group.meaning c.args.store.now.group) c.args.store.now.n in
     let first = state_of (g.A.CellArray.cells c.args.store.now.array) c.args.store.now.ledger in
     let now = state_of (g.A.CellArray.cells c.loop-line.store.array) c.loop-line.store.ledger in
-    let next = state_of (g.A.CellArray.cells c.answer_line-reply.new.store.array) c.answer_line-reply.new.store.ledger in
+    let next = state_of (g.A.CellArray.cells c.answer_line.new.store.array) c.answer_line.new.store.ledger in
     let l = line_of c.in-Some.line in
-    let answered = c.answer_line-reply.ensures in
-    let taken = c.in-Some.ensures in (
-      taken.countable,
-      answered.group ∙ inv.1,
-      answered.n ∙ inv.2,
-      progress_more co first now next (lines_left c.args.lines.now) (lines_left c.loop-line.lines) l (lines_left c.next_line.new.self)
-          (Made (records co (g.A.CellArray.cells c.args.store.now.array))) c.answer_line-reply.result (vec_items c.loop-line.replies) (vec_items c.push-in-Some.new.self)
-          inv.3 taken.next c.in_ok-push-2.ensures.items
-          (subst₂ (λ gr n. Course (code (g.G.Group.meaning gr) n) (λ h. LineTells l.1 l.0 now h c.answer_line-reply.result) now next) inv.1 inv.2 answered.course),
+    let answered = c.answer_line.ensures in (
+      answered.group ∙ inv.0,
+      answered.n ∙ inv.1,
+      progress_more co first now next (lines_left c.into_iter-line-iterator.result) (lines_left c.loop-line.line-iterator) l (lines_left c.next.new.self)
+          (Made (records co (g.A.CellArray.cells c.args.store.now.array))) c.answer_line.result (vec_items c.loop-line.replies) (vec_items c.push-in-loop-line.new.self)
+          inv.2 c.in-Some.ensures.steps c.in_ok-push-2.ensures.items
+          (subst₂ (λ gr n. Course (code (g.G.Group.meaning gr) n) (λ h. LineTells l.1 l.0 now h c.answer_line.result) now next) inv.0 inv.1 answered.course),
     )

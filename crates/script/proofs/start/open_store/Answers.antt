@@ -29,7 +29,7 @@ returns-in_err-located_at c =
 pub returns : goal.returns
 returns c =
     let place = c.args.place in
-    let lines = lines_left c.args.lines.now in
+    let lines = lines_left c.args.lines in
     let image =
     image_made place vec_items c.fresh_flash.result c.in_ok-image.image (sym c.located_at.ensures ∙ c.in_ok-image.was) c.fresh_flash.ensures in
     let fresh =

@@ -13,8 +13,8 @@ returns-in_err-heading c =
     let fault = read_refused (head_spots l) (Headings l) c.in-Some.head.number c.read.result e (sym c.located_at.ensures ∙ c.in_err-heading.was) c.read.ensures in
     let p = err_from_is_err_and c.from_residual.result c.from_residual.ensures.1 in
     rw (p.1, p.2)
-    (head_misread c.args.script.now (line_of c.in-Some.head) (lines_left c.next_line.new.self) c.if-script-gt-MAX_SCRIPT.false
-    (sym c.of-lines.ensures.left ∙ c.in-Some.ensures.next) e fault.0 fault.1)
+    (head_misread c.args.script.now (line_of c.in-Some.head) (lines_left c.next.new.self) c.if-script-gt-MAX_SCRIPT.false
+    (sym c.of-lines.ensures ∙ c.in-Some.ensures.steps) e fault.0 fault.1)
 
 pub returns : goal.returns
 returns c =
@@ -22,5 +22,5 @@ returns c =
     let read =
     read_passed (head_spots l) (Headings l) c.in-Some.head.number c.read.result c.in_ok-heading.heading (sym c.located_at.ensures ∙ c.in_ok-heading.was)
     c.read.ensures in
-    head_read c.args.script.now (line_of c.in-Some.head) (lines_left c.next_line.new.self) c.if-script-gt-MAX_SCRIPT.false
-    (sym c.of-lines.ensures.left ∙ c.in-Some.ensures.next) vec_items c.in_ok-heading.heading c.open_store.result read c.open_store.ensures
+    head_read c.args.script.now (line_of c.in-Some.head) (lines_left c.next.new.self) c.if-script-gt-MAX_SCRIPT.false
+    (sym c.of-lines.ensures ∙ c.in-Some.ensures.steps) vec_items c.in_ok-heading.heading c.open_store.result read c.open_store.ensures
