@@ -1,11 +1,10 @@
 -- The words of a line, and how many they are. Assumes nothing.
-use Rattle.std.proofs.Common.{◌≡◌, ℕ, ◌+◌, ◌<◌, ◌≤◌, List, [], ◌∷◌, length, get_or, Some, sym, ap, ◌∙◌, subst, arith}
+use Rattle.std.proofs.Common.{◌≡◌, ℕ, ◌+◌, ◌≤◌, List, [], ◌∷◌, length, Some, sym, ap, ◌∙◌, arith}
 use Rattle.scan.specs.declared.pieces.Piece.{Piece}
 use Rattle.scan.specs.declared.pieces.Pieces.{Pieces}
-use Rattle.scan.specs.Pieces.{cut, left, Takes}
+use Rattle.scan.specs.Pieces.{left, Takes}
 use Rattle.commands.specs.declared.word.Words.{Words}
 use Rattle.commands.specs.Words.{placed, Opens}
-use Rattle.commands.proofs.Beginnings.{rest_of, first_rest}
 
 -- one piece less
 pub placed_next :
@@ -21,15 +20,6 @@ unfolding placed
 placed_none column ps e = ap (placed column) e
 
 -- what follows a command is nothing, or a space and words
-pub opens_empty : (rest : List ℕ) (ws : Words) → length rest ≤ 0 → left ws.pieces ≡ [] → Opens rest (Some ws)
-opens_empty [] ws h none = ((λ u. u), placed_none (ws.pieces.at + 3) (left ws.pieces) none)
-opens_empty (b ∷ rest) ws h none = absurd (omega arith)
-
-pub opens_spaced :
-    (rest : List ℕ) (ws : Words) → 0 < length rest → get_or rest 0 0 ≡ 32 → left ws.pieces ≡ cut 32 (rest_of rest) →
-    ws.pieces.at ≡ 0 → Opens rest (Some ws)
-opens_spaced rest ws some space pieces at =
-    subst (λ xs. Opens xs (Some ws)) (sym (first_rest rest some)) (
-      (λ other. other space),
-      ap (λ a. placed (a + 3) (left ws.pieces)) at ∙ ap (placed 3) pieces,
-    )
+pub opens_empty : (rest : List ℕ) (ws : Words) → length rest ≤ 0 → left ws.pieces ≡ [] → ws.past ≡ length rest + 2 → Opens rest (Some ws)
+opens_empty [] ws h none past = ((λ u. u), placed_none (ws.pieces.at + 3) (left ws.pieces) none, past)
+opens_empty (b ∷ rest) ws h none past = absurd (omega arith)

@@ -1,18 +1,18 @@
 -- The form of a line: its length, its command, the space after that, and the count of its words. Assumes nothing.
 use Rattle.std.proofs.Common.{◌≡◌, ℕ, ◌+◌, ◌<◌, ◌≤◌, List, [], ◌∷◌, length, get_or, Some, None, Ok, Err, Option, Result, sym, refl, ap, ◌∙◌, subst, subst₂, inl, inr, arith}
+use Rattle.std.specs.Result.{MatchResult, IsOkAnd}
 use Rattle.commands.specs.declared.opening.Opening.{Opening}
 use Rattle.commands.specs.Spots.{Stopped, Passed}
-use Rattle.commands.specs.Words.{Opens, line_words, head_words_of, words_left}
-use Rattle.commands.specs.declared.head.Head.{Head}
+use Rattle.commands.specs.Words.{Opens, line_words, words_left}
 use Rattle.commands.specs.declared.fault.Refusal.{Refusal}
-use Rattle.commands.specs.Faults.{line_number}
-use Rattle.commands.specs.Orders.{Foreign, Miscounted, head_words, count_spot, form_spots, Has, Heads, Begins, Reading}
+use Rattle.commands.specs.Orders.{Foreign, Miscounted, count_spot, form_spots, Has, Begins, Reading}
 use Rattle.commands.proofs.Beginnings.{rest_of, first_rest}
 
 pub line_begins :
     (l : List ℕ) (o : Opening) → 0 < length l → length l ≤ 80 → o.letter ≡ get_or l 0 0 → Opens (rest_of l) (Some o.words) → Begins l o
 line_begins l o some short letter opens =
     record {
+      past = opens.2 ∙ omega (arith, ap length (first_rest l some));
       length = short;
       has = subst (λ xs. Has xs o.letter (words_left o.words)) (sym (first_rest l some)) (sym letter, sym opens.1);
       familiar = λ takes known foreign. go takes known (subst (Foreign takes) (first_rest l some) foreign);
@@ -58,35 +58,25 @@ module _ (takes : ℕ → Option ℕ) (l : List ℕ) (o : Opening) (begins : Beg
         let short = begins.length in
         inr ((λ long. omega arith), inr (begins.familiar takes known, inl (miscounted (words_left o.words) begins.has ne, refl, refl)))
 
-  pub form_foreign : takes o.letter ≡ None → Stopped (form_spots takes l) 50 1
-  form_foreign none =
-      let short = begins.length in
-      inr ((λ long. omega arith), inl (go l begins.has, refl, refl))
-    where
-      go : (xs : List ℕ) → Has xs o.letter (words_left o.words) → Foreign takes xs
-      go [] has = absurd has
-      go (b ∷ rest) has = inl (ap takes has.0 ∙ none)
+  -- The count of the words is checked, and what is made of k words: a refused count refuses the line, and otherwise the line
+  -- has its letter and these words.
+  module _ (k b : ℕ) (knows : takes b ≡ Some k) (is : o.letter ≡ b) {A : Type 0} (words : A → List (List ℕ × ℕ)) (size : (x : A) → length (words x) ≡ k) where
+    pub line_read :
+        (r : Result A Refusal) → Reading (count_spot (words_left o.words) k o.words.past ∷ []) (λ x. words_left o.words ≡ words x) r →
+        Reading (form_spots takes l) (λ x. Has l b (words x)) r
+    line_read (Ok x) read = (
+      form_passed k (ap takes is ∙ knows) (ap length read.1 ∙ size x),
+      subst (λ c. Has l c (words x)) is (subst (Has l o.letter) read.1 begins.has),
+    )
+    line_read (Err f) (inl (ne, by, at)) =
+        subst₂ (λ x y. Stopped (form_spots takes l) x y) (sym by) (sym (at ∙ begins.past)) (form_miscounted k (ap takes is ∙ knows) ne)
+    line_read (Err f) (inr (counted_well, never)) = absurd never
 
-  -- a line whose command takes k words, and its words
-  pub read_counted :
-      (k b : ℕ) (ws : List (List ℕ × ℕ)) → takes b ≡ Some k → o.letter ≡ b → words_left o.words ≡ ws → length ws ≡ k →
-      Passed (form_spots takes l) × Has l b ws
-  read_counted k b ws knows is words size = (
-    form_passed k (ap takes is ∙ knows) (ap length words ∙ size),
-    subst (λ x. Has l x ws) is (subst (Has l o.letter) words begins.has),
-  )
-
-  pub read_miscounted :
-      (k b number column : ℕ) → takes b ≡ Some k → o.letter ≡ b → Stopped (count_spot (words_left o.words) k (length l + 1) ∷ []) number column →
-      Stopped (form_spots takes l) number column
-  read_miscounted k b number column knows is (inl (ne, by, at)) =
-      subst₂ (λ x y. Stopped (form_spots takes l) x y) (sym by) (sym at) (form_miscounted k (ap takes is ∙ knows) ne)
-  read_miscounted k b number column knows is (inr (counted_well, never)) = absurd never
-
--- the four words of a head
-pub head_counted :
-    (l : List ℕ) (o : Opening) → Begins l o → o.letter ≡ 72 → (r : Result Head Refusal) →
-    Reading (count_spot (words_left o.words) 4 (length l + 1) ∷ []) (λ h. words_left o.words ≡ head_words_of h) r →
-    Reading (form_spots head_words l) (Heads l) r
-head_counted l o begins is (Ok h) read = read_counted head_words l o begins 4 72 (head_words_of h) refl is read.1 refl
-head_counted l o begins is (Err f) read = read_miscounted head_words l o begins 4 72 (line_number f.fault) f.column refl is read
+    -- the same of what a closure makes of the words
+    pub line_made :
+        {B : Type 0} (made : A → B) (Q : B → Type 0) (same : (x : A) → Has l b (words x) → Q (made x)) (r : Result A Refusal) (q : Result B Refusal) →
+        Reading (count_spot (words_left o.words) k o.words.past ∷ []) (λ x. words_left o.words ≡ words x) r →
+        MatchResult r (λ x. IsOkAnd q (λ y. y ≡ made x)) (λ e. q ≡ Err e) → Reading (form_spots takes l) Q q
+    line_made made Q same (Ok x) (Ok y) read is = let found = line_read (Ok x) read in (found.0, subst Q (sym is) (same x found.1))
+    line_made made Q same (Ok x) (Err e) read is = absurd is
+    line_made made Q same (Err f) q read is = rw is (line_read (Err f) read)

@@ -8,7 +8,7 @@ use Rattle.commands.specs.declared.factor.Factor.{Factor}
 use Rattle.commands.specs.declared.factor.Factor.TheVariants.{Integers, Vectors}
 use Rattle.commands.specs.declared.group_word.GroupWord.{GroupWord}
 use Rattle.commands.specs.declared.group_word.GroupWord.TheVariants.{One, Two}
-use Rattle.commands.specs.declared.order.Order.TheVariants.{Put, Renew, Save, Get, Ledger}
+use Rattle.commands.specs.declared.command.Command.TheVariants.{Put, Renew, Save, Get, Ledger}
 use Rattle.commands.specs.Spots.{Passed}
 use Rattle.commands.specs.Words.{placed}
 use Rattle.commands.specs.Groups.{factor_spelt, group_spelt, SmallFactor, SmallGroup}

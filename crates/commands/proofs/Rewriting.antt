@@ -6,12 +6,12 @@ use Rattle.scan.proofs.Cutting.{joined_cut, cut_some}
 use Rattle.commands.specs.declared.word.Word.{Word}
 use Rattle.commands.specs.declared.word.Number.{Number}
 use Rattle.commands.specs.declared.head.Head.{Head}
-use Rattle.commands.specs.declared.heading.Heading.{Heading}
-use Rattle.commands.specs.Spots.{Stopped, Passed}
+use Rattle.commands.specs.declared.group_word.GroupWord.{GroupWord}
+use Rattle.commands.specs.Spots.{Passed}
 use Rattle.commands.specs.Groups.{SpellsGroup, group_spelt}
 use Rattle.commands.specs.Words.{placed, line_words, word_of}
 use Rattle.commands.specs.Orders.{command_words, head_words, form_spots, number_spot, head_word_spots, line_spots, head_spots, Has, Heads, Numbers, ColumnsTwo, Headings}
-use Rattle.commands.proofs.Tables.{passed_both, stopped_then}
+use Rattle.commands.proofs.Tables.{passed_both}
 
 -- the pieces of placed pieces
 unplaced : (column : ℕ) (ps : List (List ℕ)) → map (λ (w : List ℕ × ℕ). w.0) (placed column ps) ≡ ps
@@ -81,7 +81,7 @@ module _ (takes : ℕ → Option ℕ) (b : ℕ) where
 
 -- the words of a heading
 pub heading_is :
-    (takes : ℕ → Option ℕ) (l : List ℕ) (h : Head) (t : Heading) → Passed (form_spots takes l) → Heads l h → SpellsGroup h.group.bytes.now t.group →
+    (takes : ℕ → Option ℕ) (l : List ℕ) (h : Head Word Word) (t : Head GroupWord Number) → Passed (form_spots takes l) → Heads l h → SpellsGroup h.group.bytes.now t.group →
     Numbers h.n t.n → Numbers h.pages t.pages → Numbers h.width t.width → Headings l t
 unfolding joined placed
 heading_is takes l h t passed has g n p c =
@@ -111,20 +111,30 @@ has_words (c ∷ rest) b ws has = has.1
 
 -- the table of a line whose form passes goes on with its words
 module _ (l : List ℕ) (b : ℕ) (ws : List (List ℕ × ℕ)) (has : Has l b ws) where
-  pub line_stopped : (k j : ℕ) → Passed (form_spots command_words l) → Stopped (map number_spot ws) k j → Stopped (line_spots l) k j
-  line_stopped k j passed stopped =
-      stopped_then (form_spots command_words l) (map number_spot (line_words l)) k j passed
-      (subst (λ vs. Stopped (map number_spot vs) k j) (sym (has_words l b ws has)) stopped)
-
   pub line_passed : Passed (form_spots command_words l) → Passed (map number_spot ws) → Passed (line_spots l)
   line_passed passed words =
       passed_both (form_spots command_words l) (map number_spot (line_words l)) passed (subst (λ vs. Passed (map number_spot vs)) (sym (has_words l b ws has)) words)
 
-  pub head_stopped : (k j : ℕ) → Passed (form_spots head_words l) → Stopped (head_word_spots ws) k j → Stopped (head_spots l) k j
-  head_stopped k j passed stopped =
-      stopped_then (form_spots head_words l) (head_word_spots (line_words l)) k j passed
-      (subst (λ vs. Stopped (head_word_spots vs) k j) (sym (has_words l b ws has)) stopped)
-
   pub head_passed : Passed (form_spots head_words l) → Passed (head_word_spots ws) → Passed (head_spots l)
   head_passed passed words =
       passed_both (form_spots head_words l) (head_word_spots (line_words l)) passed (subst (λ vs. Passed (head_word_spots vs)) (sym (has_words l b ws has)) words)
+
+-- a line of a command with two numbers, one or none passes its table, and is that order written out
+module _ (l : List ℕ) (b : ℕ) (form : Passed (form_spots command_words l)) where
+  pub two_ordered :
+      (v w : Word) (m n : Number) → Has l b (word_of v ∷ (word_of w ∷ [])) → Passed (number_spot (word_of v) ∷ []) × Numbers v m →
+      Passed (number_spot (word_of w) ∷ []) × Numbers w n →
+      Passed (line_spots l) × (l ≡ b ∷ (32 ∷ (decimal m.value ++ (32 ∷ decimal n.value)))) × ColumnsTwo m n
+  two_ordered v w m n has first second =
+      let written = two_numbers command_words b l v w m n form has first.1 second.1 in
+      (line_passed l b (word_of v ∷ (word_of w ∷ [])) has form (first.0.0, (second.0.0, tt)), written.0, written.1)
+
+  pub one_ordered :
+      (w : Word) (n : Number) → Has l b (word_of w ∷ []) → Passed (number_spot (word_of w) ∷ []) × Numbers w n →
+      Passed (line_spots l) × (l ≡ b ∷ (32 ∷ decimal n.value)) × (n.column ≡ 3)
+  one_ordered w n has only =
+      let written = one_number command_words b l w n form has only.1 in
+      (line_passed l b (word_of w ∷ []) has form (only.0.0, tt), written.0, written.1)
+
+  pub none_ordered : Has l b [] → Passed (line_spots l) × (l ≡ b ∷ [])
+  none_ordered has = (line_passed l b [] has form tt, letter_is command_words b l has)

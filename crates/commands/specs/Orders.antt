@@ -4,10 +4,7 @@ use Rattle.scan.specs.Numbers.{Spells}
 use Rattle.commands.specs.declared.fault.Refusal.{Refusal}
 use Rattle.commands.specs.declared.group_word.GroupWord.{GroupWord}
 use Rattle.commands.specs.declared.command.Command.{Command}
-use Rattle.commands.specs.declared.command.Command.TheVariants.{Put as PutWords, Renew as RenewWords, Save as SaveWords, Get as GetWords, Ledger as NoWords}
-use Rattle.commands.specs.declared.order.Order.{Order}
-use Rattle.commands.specs.declared.order.Order.TheVariants.{Put, Renew, Save, Get, Ledger}
-use Rattle.commands.specs.declared.heading.Heading.{Heading}
+use Rattle.commands.specs.declared.command.Command.TheVariants.{Put, Renew, Save, Get, Ledger}
 use Rattle.commands.specs.declared.word.Number.{Number}
 use Rattle.commands.specs.declared.head.Head.{Head}
 use Rattle.commands.specs.Spots.{Spot, spot, Stopped, Passed}
@@ -18,7 +15,7 @@ use Rattle.commands.specs.Faults.{line_number}
 use Rattle.commands.specs.Groups.{SmallGroup, SpellsGroup, group_spelt}
 
 -- An order written out as a line: its letter, and each of its numbers in decimal after a space.
-abbrev pub written : Order → List ℕ
+abbrev pub written : Command Number → List ℕ
 written (Put k x) = 80 ∷ (32 ∷ (decimal k.value ++ (32 ∷ decimal x.value)))
 written (Renew k x) = 82 ∷ (32 ∷ (decimal k.value ++ (32 ∷ decimal x.value)))
 written (Save k x) = 83 ∷ (32 ∷ (decimal k.value ++ (32 ∷ decimal x.value)))
@@ -26,7 +23,7 @@ written (Get k) = 71 ∷ (32 ∷ decimal k.value)
 written Ledger = 76 ∷ []
 
 -- A heading written out: H, the group, the cells to a record, the pages and the width.
-abbrev pub heading_written : Heading → List ℕ
+abbrev pub heading_written : Head GroupWord Number → List ℕ
 heading_written h =
     72 ∷ (32 ∷ (group_spelt h.group ++ (32 ∷ (decimal h.n.value ++ (32 ∷ (decimal h.pages.value ++ (32 ∷ decimal h.width.value)))))))
 
@@ -34,34 +31,34 @@ heading_written h =
 abbrev pub ColumnsTwo : Number → Number → Type 0
 ColumnsTwo k x = (k.column ≡ 3) × (x.column ≡ k.column + length (decimal k.value) + 1)
 
-abbrev pub Columns : Order → Type 0
+abbrev pub Columns : Command Number → Type 0
 Columns (Put k x) = ColumnsTwo k x
 Columns (Renew k x) = ColumnsTwo k x
 Columns (Save k x) = ColumnsTwo k x
 Columns (Get k) = k.column ≡ 3
 Columns Ledger = Unit {0}
 
-pub record HeadingColumns (h : Heading) : Type 0 where
+pub record HeadingColumns (h : Head GroupWord Number) : Type 0 where
   pub n : h.n.column ≡ 3 + length (group_spelt h.group) + 1
   pub pages : h.pages.column ≡ h.n.column + length (decimal h.n.value) + 1
   pub width : h.width.column ≡ h.pages.column + length (decimal h.pages.value) + 1
 
 -- the line orders o, or is the heading h
-abbrev pub Orders : List ℕ → Order → Type 0
+abbrev pub Orders : List ℕ → Command Number → Type 0
 Orders l o = (l ≡ written o) × Columns o
 
-abbrev pub Headings : List ℕ → Heading → Type 0
+abbrev pub Headings : List ℕ → Head GroupWord Number → Type 0
 Headings l h = (l ≡ heading_written h) × HeadingColumns h
 
 -- numbers of at most nine digits
-abbrev pub Small : Order → Type 0
+abbrev pub Small : Command Number → Type 0
 Small (Put k x) = (k.value < 1000000000) × (x.value < 1000000000)
 Small (Renew k x) = (k.value < 1000000000) × (x.value < 1000000000)
 Small (Save k x) = (k.value < 1000000000) × (x.value < 1000000000)
 Small (Get k) = k.value < 1000000000
 Small Ledger = Unit {0}
 
-pub record SmallHeading (h : Heading) : Type 0 where
+pub record SmallHeading (h : Head GroupWord Number) : Type 0 where
   pub group : SmallGroup h.group
   pub n : h.n.value < 1000000000
   pub pages : h.pages.value < 1000000000
@@ -120,14 +117,14 @@ Has [] letter ws = ⊥
 Has (b ∷ rest) letter ws = (b ≡ letter) × (line_words (b ∷ rest) ≡ ws)
 
 -- the command is the one of the line
-abbrev pub Commands : List ℕ → Command → Type 0
-Commands l (PutWords k x) = Has l 80 (word_of k ∷ (word_of x ∷ []))
-Commands l (RenewWords k x) = Has l 82 (word_of k ∷ (word_of x ∷ []))
-Commands l (SaveWords k x) = Has l 83 (word_of k ∷ (word_of x ∷ []))
-Commands l (GetWords k) = Has l 71 (word_of k ∷ [])
-Commands l NoWords = Has l 76 []
+abbrev pub Commands : List ℕ → Command Word → Type 0
+Commands l (Put k x) = Has l 80 (word_of k ∷ (word_of x ∷ []))
+Commands l (Renew k x) = Has l 82 (word_of k ∷ (word_of x ∷ []))
+Commands l (Save k x) = Has l 83 (word_of k ∷ (word_of x ∷ []))
+Commands l (Get k) = Has l 71 (word_of k ∷ [])
+Commands l Ledger = Has l 76 []
 
-abbrev pub Heads : List ℕ → Head → Type 0
+abbrev pub Heads : List ℕ → Head Word Word → Type 0
 Heads l h = Has l 72 (head_words_of h)
 
 -- a step of the reading of a line: what holds of its answer, or the first row that holds, with its column
@@ -141,6 +138,7 @@ Numbers w n = Spells w.bytes.now n.value × (n.column ≡ w.column)
 
 -- A line's first byte and its words, whatever commands may stand there; or a refusal that holds for all of them.
 pub record Begins (l : List ℕ) (o : Opening) : Type 0 where
+  pub past : o.words.past ≡ length l + 1
   pub length : length l ≤ 80
   pub has : Has l o.letter (words_left o.words)
   pub familiar : (takes : ℕ → Option ℕ) → (takes o.letter ≢ None) → Foreign takes l → ⊥
@@ -151,7 +149,7 @@ OpensLine l (Err f) = (takes : ℕ → Option ℕ) → Stopped (form_spots takes
 
 -- The laws of reading: every order of such numbers, and every such heading, passes its table when it is written out.
 abbrev pub OrdersPass : Type 0
-OrdersPass = (o : Order) → Small o → Passed (line_spots (written o))
+OrdersPass = (o : Command Number) → Small o → Passed (line_spots (written o))
 
 abbrev pub HeadingsPass : Type 0
-HeadingsPass = (h : Heading) → SmallHeading h → Passed (head_spots (heading_written h))
+HeadingsPass = (h : Head GroupWord Number) → SmallHeading h → Passed (head_spots (heading_written h))

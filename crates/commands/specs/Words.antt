@@ -1,6 +1,7 @@
 -- The words of a line: the pieces between the spaces after its command, each with the column of its first byte.
 -- Assumes nothing.
 use Rattle.std.specs.Prelude.{◌≡◌, ℕ, ◌+◌, List, [], ◌∷◌, length, Some, None, Option}
+use Rattle.std.specs.Iterator.{YieldsFirstBy}
 use Rattle.scan.specs.Pieces.{cut, left}
 use Rattle.commands.specs.declared.head.Head.{Head}
 use Rattle.commands.specs.declared.word.Word.{Word}
@@ -31,19 +32,18 @@ abbrev pub word_of : Word → List ℕ × ℕ
 word_of w = (w.bytes.now, w.column)
 
 -- those of a head
-abbrev pub head_words_of : Head → List (List ℕ × ℕ)
+abbrev pub head_words_of : Head Word Word → List (List ℕ × ℕ)
 head_words_of h = word_of h.group ∷ (word_of h.n ∷ (word_of h.pages ∷ (word_of h.width ∷ [])))
 
 -- the words that are still to be taken
 abbrev pub words_left : Words → List (List ℕ × ℕ)
 words_left ws = placed (ws.pieces.at + 3) (left ws.pieces)
 
--- the next word is taken, or none is left
+-- the next word is taken, or none is left; the line ends where it did
 abbrev pub NextWord : Words → Option Word → Words → Type 0
-NextWord s (Some w) t = words_left s ≡ word_of w ∷ words_left t
-NextWord s None t = words_left s ≡ []
+NextWord s r t = YieldsFirstBy word_of words_left s r t × (t.past ≡ s.past)
 
 -- the words of what follows a command, or none where no space follows it
 abbrev pub Opens : List ℕ → Option Words → Type 0
-Opens rest (Some ws) = (Unspaced rest → ⊥) × (words_left ws ≡ words_after rest)
+Opens rest (Some ws) = (Unspaced rest → ⊥) × (words_left ws ≡ words_after rest) × (ws.past ≡ length rest + 2)
 Opens rest None = Unspaced rest

@@ -1,49 +1,69 @@
-// The commands of the lines after the head, each with its words, which are parts of the script.
+// The commands of the lines after the head, with their words or with their numbers.
 // A line's letter says which command it is and how many words it takes.
-ghost use Rattle.commands.specs.Orders.{command_words, form_spots, Commands, Reading};
+ghost use Rattle.commands.specs.Orders.{command_words, form_spots, line_spots, Commands, Orders, Reading};
 
-use crate::fault::Refusal;
-use crate::opening::{Opening, foreign};
-use crate::word::Word;
+use crate::fault::{LineFault, Refusal};
+use crate::opening::Opening;
+use crate::word::{Number, Word};
 
 #[derive(Clone, Copy)]
-pub enum Command<'a> {
-    Put { record: Word<'a>, value: Word<'a> },
-    Renew { record: Word<'a>, value: Word<'a> },
+pub enum Command<T> {
+    Put { record: T, value: T },
+    Renew { record: T, value: T },
     // a put, and a renewal where the put is full
-    Save { record: Word<'a>, value: Word<'a> },
-    Get { record: Word<'a> },
+    Save { record: T, value: T },
+    Get { record: T },
     Ledger,
 }
 
-impl<'a> Command<'a> {
-    pub fn read(line: &'a [u8]) -> Result<Command<'a>, Refusal>
+impl<'a> Command<Word<'a>> {
+    // The command of a line with its words, which are parts of the script.
+    pub fn in_words(line: &'a [u8]) -> Result<Command<Word<'a>>, Refusal>
         ensures { Reading (form_spots command_words line.now) (Commands line.now) result }
     {
         let Opening { letter, words } = Opening::of(line)?;
-        let past = line.len() + 1;
         match letter {
-            'P' => {
-                let (record, value) = words.two(past)?;
-                Ok(Command::Put { record, value })
-            }
-            'R' => {
-                let (record, value) = words.two(past)?;
-                Ok(Command::Renew { record, value })
-            }
-            'S' => {
-                let (record, value) = words.two(past)?;
-                Ok(Command::Save { record, value })
-            }
-            'G' => {
-                let record = words.one(past)?;
-                Ok(Command::Get { record })
-            }
-            'L' => {
-                words.none(past)?;
-                Ok(Command::Ledger)
-            }
-            _ => Err(foreign()),
+            'P' => words
+                .two()
+                .map(|(record, value)| Command::Put { record, value }),
+            'R' => words
+                .two()
+                .map(|(record, value)| Command::Renew { record, value }),
+            'S' => words
+                .two()
+                .map(|(record, value)| Command::Save { record, value }),
+            'G' => words.one().map(|record| Command::Get { record }),
+            'L' => words.none().map(|()| Command::Ledger),
+            _ => Err(LineFault::Command.at(1)),
         }
+    }
+}
+
+// What a line after the head orders: its command, with its numbers.
+pub type Order = Command<Number>;
+
+impl Command<Number> {
+    // A line that is an order is that order written out, byte for byte.
+    pub fn read(line: &[u8]) -> Result<Order, Refusal>
+        ensures { Reading (line_spots line.now) (Orders line.now) result }
+    {
+        Ok(match Command::in_words(line)? {
+            Command::Put { record, value } => Command::Put {
+                record: record.number()?,
+                value: value.number()?,
+            },
+            Command::Renew { record, value } => Command::Renew {
+                record: record.number()?,
+                value: value.number()?,
+            },
+            Command::Save { record, value } => Command::Save {
+                record: record.number()?,
+                value: value.number()?,
+            },
+            Command::Get { record } => Command::Get {
+                record: record.number()?,
+            },
+            Command::Ledger => Command::Ledger,
+        })
     }
 }

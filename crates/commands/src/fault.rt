@@ -29,6 +29,16 @@ impl LineFault {
             LineFault::Size => 54,
         }
     }
+
+    // the refusal of a line for this, at a column
+    pub(crate) fn at(self, column: usize) -> Refusal
+        ensures { result ≡ record { fault = self; column = column } }
+    {
+        Refusal {
+            fault: self,
+            column,
+        }
+    }
 }
 
 // A refused line, with the column that the refusal names.

@@ -1,4 +1,5 @@
-// Nothing here makes a call; a line is read, or refused with the column of the refusal.
+// The lines of a script: what each of them orders, or why it is refused and at which column.
+// Nothing here makes a call.
 #![tactic(auto)]
 
 pub mod command;
@@ -6,8 +7,6 @@ pub mod factor;
 pub mod fault;
 pub mod group_word;
 pub mod head;
-pub mod heading;
 pub mod laws;
 mod opening;
-pub mod order;
 pub mod word;

@@ -1,7 +1,5 @@
 // The beginning of a line: its length, its first byte, and the space after that.
 // Which letters are commands is for the readers of heads and of commands to say.
-ghost use Rattle.std.specs.Prelude.{◌≡◌};
-ghost use Rattle.commands.specs.declared.fault.LineFault.TheVariants.{Command};
 ghost use Rattle.commands.specs.Orders.{OpensLine};
 
 use crate::fault::{LineFault, Refusal};
@@ -22,30 +20,15 @@ impl<'a> Opening<'a> {
         ensures { OpensLine line.now result }
     {
         if line.len() > MAX_LINE {
-            return Err(Refusal {
-                fault: LineFault::Long,
-                column: MAX_LINE + 1,
-            });
+            return Err(LineFault::Long.at(MAX_LINE + 1));
         }
         let [letter, rest @ ..] = line else {
-            return Err(foreign());
+            return Err(LineFault::Command.at(1));
         };
-        let Some(words) = Words::after_command(rest) else {
-            return Err(foreign());
-        };
+        let words = Words::after_command(rest).ok_or(LineFault::Command.at(1))?;
         Ok(Opening {
             letter: char::from(*letter),
             words,
         })
-    }
-}
-
-// A command that may not stand there, or no space after it.
-pub(crate) fn foreign() -> Refusal
-    ensures { result ≡ record { fault = Command; column = 1 } }
-{
-    Refusal {
-        fault: LineFault::Command,
-        column: 1,
     }
 }

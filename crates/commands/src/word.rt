@@ -1,7 +1,7 @@
 // Words: parts of the script's bytes, each with the column of its first byte in its line.
 // A line's words are taken one after another, and their number is that of its command.
 ghost use Rattle.std.specs.Prelude.{◌≡◌, [], ◌∷◌};
-ghost use Rattle.commands.specs.declared.fault.LineFault.TheVariants.{Count};
+ghost use Rattle.std.specs.Iterator.{item_count};
 ghost use Rattle.commands.specs.Words.{word_of, head_words_of, words_left, NextWord, Opens};
 ghost use Rattle.commands.specs.Orders.{number_spot, group_spot, count_spot, Numbers, Reading};
 ghost use Rattle.commands.specs.Groups.{SpellsGroup};
@@ -33,33 +33,26 @@ impl<'a> Word<'a> {
     pub fn number(self) -> Result<Number, Refusal>
         ensures { Reading (number_spot (word_of self.entry) ∷ []) (Numbers self.entry) result }
     {
-        match read_number(self.bytes) {
-            Some(value) => Ok(Number {
-                value,
-                column: self.column,
-            }),
-            None => Err(Refusal {
-                fault: LineFault::Word,
-                column: self.column,
-            }),
-        }
+        let value = read_number(self.bytes).ok_or(LineFault::Word.at(self.column))?;
+        Ok(Number {
+            value,
+            column: self.column,
+        })
     }
 
     // The group that the word spells.
     pub fn group(self) -> Result<GroupWord, Refusal>
         ensures { Reading (group_spot (word_of self.entry) ∷ []) (λ g. SpellsGroup self.entry.bytes.now g) result }
     {
-        GroupWord::read(self.bytes).ok_or(Refusal {
-            fault: LineFault::Word,
-            column: self.column,
-        })
+        GroupWord::read(self.bytes).ok_or(LineFault::Word.at(self.column))
     }
 }
 
-// The words of a line that are still to be taken.
+// The words of a line that are still to be taken, and the column past the line.
 #[derive(Drop)]
 pub(crate) struct Words<'a> {
-    pub(crate) pieces: Pieces<'a>,
+    pieces: Pieces<'a>,
+    past: usize,
 }
 
 impl<'a> Words<'a> {
@@ -67,70 +60,56 @@ impl<'a> Words<'a> {
     pub(crate) fn after_command(rest: &'a [u8]) -> Option<Words<'a>>
         ensures { Opens rest.now result }
     {
+        let past = rest.len() + 2;
         match rest {
             [] => Some(Words {
                 pieces: Pieces::none(b' '),
+                past,
             }),
             [b' ', words @ ..] => Some(Words {
                 pieces: Pieces::of(words, b' '),
+                past,
             }),
             _ => None,
         }
     }
 
-    fn next_word(&mut self) -> Option<Word<'a>>
-        ensures { NextWord self.old result self.new }
+    // A borrowed word in an array of N has no proof by the borrow checker, so each count has a function of its own.
+    // That there is no word.
+    pub(crate) fn none(mut self) -> Result<(), Refusal>
+        ensures { Reading (count_spot (words_left self.entry) 0 self.entry.past ∷ []) (λ _. words_left self.entry ≡ []) result }
     {
-        let piece = self.pieces.next()?;
-        Some(Word {
-            bytes: piece.bytes,
-            column: piece.at + FIRST_COLUMN,
-        })
-    }
-
-    // That there is no word. A refusal names the column past the line.
-    pub(crate) fn none(mut self, past: usize) -> Result<(), Refusal>
-        ensures { Reading (count_spot (words_left self.entry) 0 past ∷ []) (λ _. words_left self.entry ≡ []) result }
-    {
-        match self.next_word() {
+        match self.next() {
             None => Ok(()),
-            Some(_) => Err(miscounted(past)),
+            Some(_) => Err(LineFault::Count.at(self.past)),
         }
     }
 
     // The only word.
-    pub(crate) fn one(mut self, past: usize) -> Result<Word<'a>, Refusal>
-        ensures { Reading (count_spot (words_left self.entry) 1 past ∷ []) (λ w. words_left self.entry ≡ word_of w ∷ []) result }
+    pub(crate) fn one(mut self) -> Result<Word<'a>, Refusal>
+        ensures { Reading (count_spot (words_left self.entry) 1 self.entry.past ∷ []) (λ w. words_left self.entry ≡ word_of w ∷ []) result }
     {
-        let Some(word) = self.next_word() else {
-            return Err(miscounted(past));
-        };
-        self.none(past)?;
+        let word = self.next().ok_or(LineFault::Count.at(self.past))?;
+        self.none()?;
         Ok(word)
     }
 
     // The only two words.
-    pub(crate) fn two(mut self, past: usize) -> Result<(Word<'a>, Word<'a>), Refusal>
-        ensures { Reading (count_spot (words_left self.entry) 2 past ∷ []) (λ ws. words_left self.entry ≡ word_of ws.0 ∷ (word_of ws.1 ∷ [])) result }
+    pub(crate) fn two(mut self) -> Result<(Word<'a>, Word<'a>), Refusal>
+        ensures { Reading (count_spot (words_left self.entry) 2 self.entry.past ∷ []) (λ ws. words_left self.entry ≡ word_of ws.0 ∷ (word_of ws.1 ∷ [])) result }
     {
-        let Some(first) = self.next_word() else {
-            return Err(miscounted(past));
-        };
-        let second = self.one(past)?;
+        let first = self.next().ok_or(LineFault::Count.at(self.past))?;
+        let second = self.one()?;
         Ok((first, second))
     }
 
     // The only four words.
-    pub(crate) fn four(mut self, past: usize) -> Result<Head<'a>, Refusal>
-        ensures { Reading (count_spot (words_left self.entry) 4 past ∷ []) (λ h. words_left self.entry ≡ head_words_of h) result }
+    pub(crate) fn four(mut self) -> Result<Head<Word<'a>, Word<'a>>, Refusal>
+        ensures { Reading (count_spot (words_left self.entry) 4 self.entry.past ∷ []) (λ h. words_left self.entry ≡ head_words_of h) result }
     {
-        let Some(group) = self.next_word() else {
-            return Err(miscounted(past));
-        };
-        let Some(n) = self.next_word() else {
-            return Err(miscounted(past));
-        };
-        let (pages, width) = self.two(past)?;
+        let group = self.next().ok_or(LineFault::Count.at(self.past))?;
+        let n = self.next().ok_or(LineFault::Count.at(self.past))?;
+        let (pages, width) = self.two()?;
         Ok(Head {
             group,
             n,
@@ -140,11 +119,18 @@ impl<'a> Words<'a> {
     }
 }
 
-fn miscounted(past: usize) -> Refusal
-    ensures { result ≡ record { fault = Count; column = past } }
-{
-    Refusal {
-        fault: LineFault::Count,
-        column: past,
+impl<'a> Iterator for Words<'a> {
+    type Item = Word<'a>;
+
+    ghost next_gives = { NextWord };
+
+    ghost remaining = { item_count words_left };
+
+    fn next(&mut self) -> Option<Word<'a>> {
+        let piece = self.pieces.next()?;
+        Some(Word {
+            bytes: piece.bytes,
+            column: piece.at + FIRST_COLUMN,
+        })
     }
 }

@@ -2,7 +2,7 @@
 use Rattle.std.proofs.Common.{◌≡◌, ℕ, ◌+◌, ◌*◌, ◌^◌, ◌<◌, ◌≤◌, ◌⊎◌, List, length, get_or, Some, None, decimal, Option, sym, ap, ◌∙◌, inl, inr, add-one, arith, rules}
 use native.Mathlib.Nat.{pow-succ', pow-le-pow_right}
 use Rattle.std.specs.Int.{IsInRange}
-use Rattle.std.proofs.lemmas.Fmt.{decimal-digits_value, decimal_nonempty, decimal_digit, digits_decimal, first_decimal, length-decimal-le, decimal_injective}
+use Rattle.std.proofs.lemmas.Fmt.{decimal-digits_value, decimal_nonempty, decimal_digit, digits_decimal, first_decimal, length-decimal-le}
 use Rattle.std.proofs.lemmas.Str.Parse.{IsNumeralModel, numerals_by_fold, tells_by_index, digits_value_short}
 use Rattle.std.proofs.lemmas.Bool.{cases_lt}
 use Rattle.scan.specs.Pieces.{Lacks}
@@ -11,10 +11,6 @@ use Rattle.scan.specs.Numbers.{Spells, Reads, AllDigits, value_after, AddsUp}
 -- digits and their value are those of the library
 own : IsNumeralModel AllDigits (value_after 0)
 own = numerals_by_fold AllDigits tells_by_index value_after (search rules)
-
--- a word is one number at most
-pub same_number : (w : List ℕ) (m n : ℕ) → Spells w m → Spells w n → m ≡ n
-same_number w m n (few, is) (less, also) = decimal_injective m n (omega arith) (omega arith) (sym is ∙ also)
 
 -- a number is written in digits
 pub decimal_all_digits : (n : ℕ) → n < 2 ^ 64 → AllDigits (decimal n)

@@ -4,7 +4,8 @@ use Rattle.coset.specs.Code.{Code}
 use Rattle.calls.specs.Faults.{located}
 use Rattle.calls.specs.Calls.{State}
 use Rattle.commands.specs.declared.fault.Refusal.{Refusal}
-use Rattle.commands.specs.declared.order.Order.{Order}
+use Rattle.commands.specs.declared.command.Command.{Command}
+use Rattle.commands.specs.declared.word.Number.{Number}
 use Rattle.commands.specs.Faults.{line_number}
 use Rattle.commands.specs.Spots.{Spot, Stopped, Passed}
 use Rattle.commands.specs.Orders.{Reading, Orders, line_spots}
@@ -49,7 +50,7 @@ tells_refused c k l e r s at stopped prints =
 
 -- any other line tells what its order does
 pub tells_obeyed :
-    (c : Code) (k : ℕ) (l : List ℕ) (o : Order) (r : Reply) (s t : State) → Passed (line_spots l) × Orders l o → Course c (λ h. OrderTells k o s h r) s t →
+    (c : Code) (k : ℕ) (l : List ℕ) (o : Command Number) (r : Reply) (s t : State) → Passed (line_spots l) × Orders l o → Course c (λ h. OrderTells k o s h r) s t →
     Course c (λ h. LineTells k l s h r) s t
 tells_obeyed c k l o r s t read course =
     record {

@@ -21,7 +21,9 @@ use Rattle.calls.specs.Ledger.{blank}
 use Rattle.calls.specs.Calls.{state_of}
 use Rattle.calls.specs.History.{Event}
 use Rattle.calls.proofs.Promised.{promised}
-use Rattle.commands.specs.declared.heading.Heading.{Heading}
+use Rattle.commands.specs.declared.head.Head.{Head}
+use Rattle.commands.specs.declared.group_word.GroupWord.{GroupWord}
+use Rattle.commands.specs.declared.word.Number.{Number}
 use Rattle.commands.specs.Groups.{word_group}
 use Rattle.group.specs.Group.{unusable}
 use Rattle.commands.specs.Spots.{spot, Stopped, Passed}
@@ -41,7 +43,7 @@ use Rattle.script.specs.Lines.{numbered}
 use Rattle.script.specs.Tells.{refusal, Tells, Answered}
 use Rattle.script.specs.Script.{make_spots, MadeStore, HeadingStops, Opens, Starts, Prints, Answers}
 
-module _ (h : Heading) where
+module _ (h : Head GroupWord Number) where
   at_pages : (e : ImageFault) → image_number e ≡ 11 → image_column h e ≡ h.pages.column
   at_pages Short n = absurd (omega arith)
   at_pages Pages n = refl
@@ -191,7 +193,7 @@ module _ (script : List ℕ) (l : List ℕ × ℕ) (rest : List (List ℕ × ℕ
 
   -- one that is
   pub head_read :
-      {A : Type 0} (items : A → List Reply) (h : Heading) (r : Result A Stop) → Passed (head_spots l.0) × Headings l.0 h → Opens items l.1 h rest r →
+      {A : Type 0} (items : A → List Reply) (h : Head GroupWord Number) (r : Result A Stop) → Passed (head_spots l.0) × Headings l.0 h → Opens items l.1 h rest r →
       Answers items script r
   head_read items h (Ok v) read opens =
       started (items v) (inr (record { heading = h; passed = read.0; is = read.1; tells = inr opens }))

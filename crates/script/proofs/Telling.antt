@@ -6,9 +6,9 @@ use Rattle.calls.specs.declared.call.Call.TheVariants.{Get, Put, Renew}
 use Rattle.calls.specs.Calls.{State, Answer, Obeys}
 use Rattle.calls.specs.History.{Event}
 use Rattle.calls.specs.Promise.{RefusedFull}
-use Rattle.commands.specs.declared.order.Order.{Order}
-use Rattle.commands.specs.declared.order.Order.TheVariants.{Put as OrderPut, Renew as OrderRenew, Save as OrderSave, Get as OrderGet}
+use Rattle.commands.specs.declared.command.Command.{Command}
 use Rattle.commands.specs.declared.word.Number.{Number}
+use Rattle.commands.specs.declared.command.Command.TheVariants.{Put as OrderPut, Renew as OrderRenew, Save as OrderSave, Get as OrderGet}
 use Rattle.script.specs.declared.fault.OrderPlace.{OrderPlace}
 use Rattle.script.specs.declared.reply.Reply.{Reply}
 use Rattle.script.specs.declared.reply.Reply.TheVariants.{Wrote, Renewed, Holds}
@@ -28,7 +28,7 @@ once c call says a before after r obeys prints =
       tells = record { event = made call a before after; alone = refl; calls = refl; prints = prints };
     }
 
-module _ (c : Code) (k : ℕ) (o : Order) (m x : Number) (p : OrderPlace) (at : p ≡ record { line = k; «record» = m.column; value = x.column })
+module _ (c : Code) (k : ℕ) (o : Command Number) (m x : Number) (p : OrderPlace) (at : p ≡ record { line = k; «record» = m.column; value = x.column })
     (before after : State) (a : Answer) (r : Reply) where
   placed_there : (says : ℕ → Reply) → r ≡ said p.line p.«record» p.value says a → r ≡ said k m.column x.column says a
   placed_there says prints = prints ∙ ap (λ (q : OrderPlace). said q.line q.«record» q.value says a) at
@@ -82,7 +82,7 @@ module _ (c : Code) (k : ℕ) (o : Order) (m x : Number) (p : OrderPlace) (at : 
       })
 
 pub tells_get :
-    (c : Code) (k : ℕ) (o : Order) (m : Number) (before after : State) (a : Answer) (r : Reply) → o ≡ OrderGet m → Obeys c (Get m.value) a before after →
+    (c : Code) (k : ℕ) (o : Command Number) (m : Number) (before after : State) (a : Answer) (r : Reply) → o ≡ OrderGet m → Obeys c (Get m.value) a before after →
     r ≡ said k m.column 1 Holds a → Course c (λ h. OrderTells k o before h r) before after
 tells_get c k o m before after a r is obeys prints =
     subst (λ z. Course c (λ h. OrderTells k z before h r) before after) (sym is)

@@ -11,7 +11,9 @@ use Rattle.calls.specs.Ledger.{blank as blank_ledger}
 use Rattle.calls.specs.Calls.{State, Answer}
 use Rattle.calls.specs.Promise.{Promise}
 use Rattle.scan.specs.Pieces.{cut}
-use Rattle.commands.specs.declared.heading.Heading.{Heading}
+use Rattle.commands.specs.declared.head.Head.{Head}
+use Rattle.commands.specs.declared.group_word.GroupWord.{GroupWord}
+use Rattle.commands.specs.declared.word.Number.{Number}
 use Rattle.commands.specs.declared.fault.LineFault.{LineFault}
 use Rattle.commands.specs.declared.fault.LineFault.TheVariants.{Command, Size}
 use Rattle.commands.specs.Faults.{line_number}
@@ -29,7 +31,7 @@ use Rattle.script.specs.Lines.{numbered}
 use Rattle.script.specs.Tells.{refusal, Tells}
 
 -- What refuses a heading, in the order of the checks, each at its word.
-abbrev pub make_spots : Heading → List Spot
+abbrev pub make_spots : Head GroupWord Number → List Spot
 make_spots h =
     spot 11 h.pages.column ((h.pages.value ≡ 0) ⊎ (64 < h.pages.value)) ∷
     (spot 12 h.width.column ((h.width.value ≡ 0) ⊎ (1024 < h.width.value)) ∷
@@ -39,7 +41,7 @@ make_spots h =
 
 -- The heading is accepted: a store over a fresh part is made, and the lines after it make calls that keep the whole
 -- promise of a store. Printed is the number of records, and then what the lines tell of the history of these calls.
-pub record MadeStore (h : Heading) (lines : List (List ℕ × ℕ)) (out : List Reply) : Type 0 where
+pub record MadeStore (h : Head GroupWord Number) (lines : List (List ℕ × ℕ)) (out : List Reply) : Type 0 where
   pub passed : Passed (make_spots h)
   pub first : State
   pub last : State
@@ -60,7 +62,7 @@ pub record HeadMisread (k : ℕ) (l : List ℕ) (out : List Reply) : Type 0 wher
   pub prints : out ≡ refusal (Line fault) k column ∷ []
 
 -- a heading that is refused
-pub record HeadRefused (k : ℕ) (h : Heading) (out : List Reply) : Type 0 where
+pub record HeadRefused (k : ℕ) (h : Head GroupWord Number) (out : List Reply) : Type 0 where
   pub cause : Cause
   pub column : ℕ
   pub stopped : Stopped (make_spots h) (cause_number cause) column
@@ -68,7 +70,7 @@ pub record HeadRefused (k : ℕ) (h : Heading) (out : List Reply) : Type 0 where
 
 -- a head that is well written, and the lines after it
 pub record HeadRead (k : ℕ) (l : List ℕ) (lines : List (List ℕ × ℕ)) (out : List Reply) : Type 0 where
-  pub heading : Heading
+  pub heading : Head GroupWord Number
   pub passed : Passed (head_spots l)
   pub is : Headings l heading
   pub tells : HeadRefused k heading out ⊎ MadeStore heading lines out
@@ -85,12 +87,12 @@ Prints script out =
     ⊎ ((length script ≤ 65535) × Starts (numbered 1 (cut 10 script)) out)
 
 -- why a heading makes no store: the refusal that is printed, or want of memory, of which nothing more is said
-abbrev pub HeadingStops : ℕ → Heading → Stop → Type 0
+abbrev pub HeadingStops : ℕ → Head GroupWord Number → Stop → Type 0
 HeadingStops k h (Fault f) = Stopped (make_spots h) (cause_number f.cause) f.column × (f.line ≡ k)
 HeadingStops k h NoMemory = Unit {0}
 
 -- what a heading and the lines after it come to; `items` are the replies of an answer
-abbrev pub Opens : {A : Type 0} → (A → List Reply) → ℕ → Heading → List (List ℕ × ℕ) → Result A Stop → Type 0
+abbrev pub Opens : {A : Type 0} → (A → List Reply) → ℕ → Head GroupWord Number → List (List ℕ × ℕ) → Result A Stop → Type 0
 Opens items k h lines (Ok v) = MadeStore h lines (items v)
 Opens items k h lines (Err stop) = HeadingStops k h stop
 

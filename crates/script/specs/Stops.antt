@@ -6,13 +6,15 @@ use Rattle.images.specs.declared.fault.ImageFault.{ImageFault}
 use Rattle.images.specs.declared.fault.ImageFault.TheVariants.{Short, Pages, Width, Trailing, Stray, Wear}
 use Rattle.store.specs.declared.making.MakingFault.{MakingFault}
 use Rattle.store.specs.declared.making.MakingFault.TheVariants.{Unusable, Cells, Narrow}
-use Rattle.commands.specs.declared.heading.Heading.{Heading}
+use Rattle.commands.specs.declared.head.Head.{Head}
+use Rattle.commands.specs.declared.group_word.GroupWord.{GroupWord}
+use Rattle.commands.specs.declared.word.Number.{Number}
 use Rattle.script.specs.declared.fault.Cause.TheVariants.{Image, Making}
 use Rattle.script.specs.declared.fault.Stop.{Stop}
 use Rattle.script.specs.declared.fault.Stop.TheVariants.{Fault, NoMemory}
 
 -- the column of a refused count: that of its word
-abbrev pub image_column : Heading → ImageFault → ℕ
+abbrev pub image_column : Head GroupWord Number → ImageFault → ℕ
 image_column h Short = 1
 image_column h Pages = h.pages.column
 image_column h Width = h.width.column
@@ -21,14 +23,14 @@ image_column h Stray = 1
 image_column h Wear = 1
 
 -- the column of a refused making: that of the group, or of the cells to a record
-abbrev pub making_column : Heading → MakingFault → ℕ
+abbrev pub making_column : Head GroupWord Number → MakingFault → ℕ
 making_column h Unusable = 3
 making_column h Cells = h.n.column
 making_column h Narrow = h.n.column
 
-abbrev pub image_stop : ℕ → Heading → ImageError → Stop
+abbrev pub image_stop : ℕ → Head GroupWord Number → ImageError → Stop
 image_stop k h (ImageRefused f) = Fault (record { cause = Image f; line = k; column = image_column h f })
 image_stop k h NoRoom = NoMemory
 
-abbrev pub making_stop : ℕ → Heading → MakingFault → Stop
+abbrev pub making_stop : ℕ → Head GroupWord Number → MakingFault → Stop
 making_stop k h f = Fault (record { cause = Making f; line = k; column = making_column h f })

@@ -14,8 +14,9 @@ use Rattle.calls.specs.Records.{records}
 use Rattle.commands.specs.declared.fault.LineFault.{LineFault}
 use Rattle.commands.specs.Faults.{line_number}
 use Rattle.commands.specs.Spots.{Stopped, Passed}
-use Rattle.commands.specs.declared.order.Order.{Order}
-use Rattle.commands.specs.declared.order.Order.TheVariants.{Put as OrderPut, Renew as OrderRenew, Save as OrderSave, Get as OrderGet, Ledger as OrderLedger}
+use Rattle.commands.specs.declared.command.Command.{Command}
+use Rattle.commands.specs.declared.word.Number.{Number}
+use Rattle.commands.specs.declared.command.Command.TheVariants.{Put as OrderPut, Renew as OrderRenew, Save as OrderSave, Get as OrderGet, Ledger as OrderLedger}
 use Rattle.commands.specs.Orders.{Orders, line_spots}
 use Rattle.script.specs.declared.fault.Cause.{Cause}
 use Rattle.script.specs.declared.fault.Cause.TheVariants.{Line, Store}
@@ -59,7 +60,7 @@ pub record CallsTwice (first second : Call) (says : Answer → Reply) (h : List 
   pub prints : r ≡ says event.answer
 
 -- The events of an order at line k, carried out in the state s, and the reply.
-abbrev pub OrderTells : ℕ → Order → State → List Event → Reply → Type 0
+abbrev pub OrderTells : ℕ → Command Number → State → List Event → Reply → Type 0
 OrderTells k (OrderPut m x) s h r = CallsOnce (Put m.value x.value) (said k m.column x.column Wrote) h r
 OrderTells k (OrderRenew m x) s h r = CallsOnce (Renew m.value x.value) (said k m.column x.column Renewed) h r
 OrderTells k (OrderSave m x) s h r =
@@ -78,7 +79,7 @@ pub record LineRefused (k : ℕ) (l : List ℕ) (h : List Event) (r : Reply) : T
 
 -- any other line is an order written out, which is carried out
 pub record LineObeyed (k : ℕ) (l : List ℕ) (s : State) (h : List Event) (r : Reply) : Type 0 where
-  pub order : Order
+  pub order : Command Number
   pub passed : Passed (line_spots l)
   pub is : Orders l order
   pub tells : OrderTells k order s h r

@@ -12,7 +12,7 @@ use crate::lines::Line;
 use crate::reply::Reply;
 use calls::fault::{Locate, StoreFault};
 use cells::array::{CellArray, Erasable};
-use commands::order::Order;
+use commands::command::Order;
 use commands::word::Number;
 use group::interface::Group;
 use store::store::Store;

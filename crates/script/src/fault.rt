@@ -9,7 +9,7 @@ ghost use Rattle.script.specs.Stops.{image_stop, making_stop};
 
 use calls::fault::StoreFault;
 use commands::fault::{LineFault, Refusal};
-use commands::heading::Heading;
+use commands::head::Heading;
 use commands::word::Number;
 use images::fault::{ImageError, ImageFault};
 use std::alloc::AllocError;

@@ -12,7 +12,7 @@ use crate::reply::Reply;
 use crate::rest::answer_rest;
 use calls::fault::Locate;
 use commands::fault::LineFault;
-use commands::heading::Heading;
+use commands::head::Heading;
 use images::flash::FlashPart;
 use images::fresh::fresh_flash;
 use std::alloc::{AllocError, Global};
