@@ -70,8 +70,10 @@ orders_pass Ledger small = ((λ long. omega arith), (go, ((λ miscounted. miscou
 
 -- a group word has no space, and is short
 factor_clean : (f : Factor) → SmallFactor f → Lacks 32 (factor_spelt f) × (length (factor_spelt f) ≤ 10)
-factor_clean (Integers m) small = let few = few_digits m small in (lacks_more 32 90 (decimal m) (λ e. omega arith) (no_space m small), omega arith)
-factor_clean (Vectors m) small = let few = few_digits m small in (lacks_more 32 88 (decimal m) (λ e. omega arith) (no_space m small), omega arith)
+factor_clean (Integers g) small =
+    let few = few_digits g.modulus small in (lacks_more 32 90 (decimal g.modulus) (λ e. omega arith) (no_space g.modulus small), omega arith)
+factor_clean (Vectors g) small =
+    let few = few_digits g.bits small in (lacks_more 32 88 (decimal g.bits) (λ e. omega arith) (no_space g.bits small), omega arith)
 
 group_clean : (g : GroupWord) → SmallGroup g → Lacks 32 (group_spelt g) × (length (group_spelt g) ≤ 21)
 group_clean (One f) small = let one = factor_clean f small in (one.0, (let few = one.1 in omega arith))

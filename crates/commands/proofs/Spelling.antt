@@ -1,5 +1,7 @@
 -- Factors and group words: what is spelt, and that nothing else is. Assumes nothing.
 use Rattle.std.proofs.Common.{◌≡◌, ℕ, ◌<◌, true, false, List, [], ◌∷◌, ◌++◌, length, get_or, is_some, Some, None, decimal, Option, sym, refl, ap, ◌∙◌, arith}
+use Rattle.group.specs.declared.integers.Integers.{Integers as Modulo}
+use Rattle.group.specs.declared.vectors.Vectors.{Vectors as Bits}
 use Rattle.commands.specs.declared.factor.Factor.{Factor}
 use Rattle.commands.specs.declared.factor.Factor.TheVariants.{Integers, Vectors}
 use Rattle.commands.specs.declared.group_word.GroupWord.{GroupWord}
@@ -16,12 +18,12 @@ use Rattle.commands.proofs.Beginnings.{rest_of, first_rest}
 
 module _ (w : List ℕ) (some : 0 < length w) where
   -- a letter and a number
-  pub spells_integers : (n : ℕ) → get_or w 0 0 ≡ 90 → Spells (rest_of w) n → SpellsFactor w (Integers n)
-  spells_integers n letter digits =
+  pub spells_integers : (g : Modulo) → get_or w 0 0 ≡ 90 → Spells (rest_of w) g.modulus → SpellsFactor w (Integers g)
+  spells_integers g letter digits =
       (digits.0, first_rest w some ∙ ap (λ b. b ∷ rest_of w) letter ∙ ap (λ ds. 90 ∷ ds) digits.1)
 
-  pub spells_vectors : (n : ℕ) → get_or w 0 0 ≡ 88 → Spells (rest_of w) n → SpellsFactor w (Vectors n)
-  spells_vectors n letter digits =
+  pub spells_vectors : (g : Bits) → get_or w 0 0 ≡ 88 → Spells (rest_of w) g.bits → SpellsFactor w (Vectors g)
+  spells_vectors g letter digits =
       (digits.0, first_rest w some ∙ ap (λ b. b ∷ rest_of w) letter ∙ ap (λ ds. 88 ∷ ds) digits.1)
 
   rest_is : (b : ℕ) (ds : List ℕ) → w ≡ b ∷ ds → rest_of w ≡ ds
@@ -29,13 +31,13 @@ module _ (w : List ℕ) (some : 0 < length w) where
 
   -- no number after the letter
   pub no_digits : ((n : ℕ) → Spells (rest_of w) n → ⊥) → (f : Factor) → SpellsFactor w f → ⊥
-  no_digits none (Integers n) s = none n (s.0, rest_is 90 (decimal n) s.1)
-  no_digits none (Vectors n) s = none n (s.0, rest_is 88 (decimal n) s.1)
+  no_digits none (Integers g) s = none g.modulus (s.0, rest_is 90 (decimal g.modulus) s.1)
+  no_digits none (Vectors g) s = none g.bits (s.0, rest_is 88 (decimal g.bits) s.1)
 
   -- another letter
   pub no_letter : (get_or w 0 0 ≡ 90 → ⊥) → (get_or w 0 0 ≡ 88 → ⊥) → (f : Factor) → SpellsFactor w f → ⊥
-  no_letter z x (Integers n) s = z (ap (λ l. get_or l 0 0) s.1)
-  no_letter z x (Vectors n) s = x (ap (λ l. get_or l 0 0) s.1)
+  no_letter z x (Integers g) s = z (ap (λ l. get_or l 0 0) s.1)
+  no_letter z x (Vectors g) s = x (ap (λ l. get_or l 0 0) s.1)
 
 -- the pieces of a group word are the spellings of its factors
 abbrev factor_pieces : GroupWord → List (List ℕ)
@@ -43,8 +45,8 @@ factor_pieces (One f) = factor_spelt f ∷ []
 factor_pieces (Two f g) = factor_spelt f ∷ (factor_spelt g ∷ [])
 
 factor_lacks : (f : Factor) → SmallFactor f → Lacks 46 (factor_spelt f)
-factor_lacks (Integers m) small = lacks_more 46 90 (decimal m) (λ e. omega arith) (decimal_lacks 46 m (omega arith) (λ d. omega arith))
-factor_lacks (Vectors m) small = lacks_more 46 88 (decimal m) (λ e. omega arith) (decimal_lacks 46 m (omega arith) (λ d. omega arith))
+factor_lacks (Integers g) small = lacks_more 46 90 (decimal g.modulus) (λ e. omega arith) (decimal_lacks 46 g.modulus (omega arith) (λ d. omega arith))
+factor_lacks (Vectors g) small = lacks_more 46 88 (decimal g.bits) (λ e. omega arith) (decimal_lacks 46 g.bits (omega arith) (λ d. omega arith))
 
 group_pieces : (g : GroupWord) → SmallGroup g → cut 46 (group_spelt g) ≡ factor_pieces g
 group_pieces (One f) small = cut_alone 46 (factor_spelt f) (factor_lacks f small)

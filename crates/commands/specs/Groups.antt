@@ -11,8 +11,8 @@ use Rattle.commands.specs.declared.group_word.GroupWord.TheVariants.{One, Two}
 
 -- the group of a factor, and of a group word
 abbrev pub factor_group : Factor → Group
-factor_group (Integers m) = integers m
-factor_group (Vectors m) = vectors m
+factor_group (Integers g) = integers g.modulus
+factor_group (Vectors g) = vectors g.bits
 
 abbrev pub word_group : GroupWord → Group
 word_group (One f) = factor_group f
@@ -20,8 +20,8 @@ word_group (Two f g) = product (factor_group f) (factor_group g)
 
 -- a factor is spelt Z or X and its parameter, and two are joined by a full stop
 abbrev pub factor_spelt : Factor → List ℕ
-factor_spelt (Integers m) = 90 ∷ decimal m
-factor_spelt (Vectors m) = 88 ∷ decimal m
+factor_spelt (Integers g) = 90 ∷ decimal g.modulus
+factor_spelt (Vectors g) = 88 ∷ decimal g.bits
 
 abbrev pub group_spelt : GroupWord → List ℕ
 group_spelt (One f) = factor_spelt f
@@ -29,8 +29,8 @@ group_spelt (Two f g) = factor_spelt f ++ (46 ∷ factor_spelt g)
 
 -- parameters have at most nine digits
 abbrev pub SmallFactor : Factor → Type 0
-SmallFactor (Integers m) = m < 1000000000
-SmallFactor (Vectors m) = m < 1000000000
+SmallFactor (Integers g) = g.modulus < 1000000000
+SmallFactor (Vectors g) = g.bits < 1000000000
 
 abbrev pub SmallGroup : GroupWord → Type 0
 SmallGroup (One f) = SmallFactor f

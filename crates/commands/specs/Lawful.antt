@@ -10,8 +10,8 @@ use Rattle.commands.specs.declared.group_word.GroupWord.TheVariants.{One, Two}
 use Rattle.commands.specs.Groups.{factor_group, word_group}
 
 pub factor_lawful : (f : Factor) → Lawful (factor_group f)
-factor_lawful (Integers m) = integers_lawful m
-factor_lawful (Vectors m) = vectors_lawful m
+factor_lawful (Integers g) = integers_lawful g.modulus
+factor_lawful (Vectors g) = vectors_lawful g.bits
 
 pub word_lawful : (g : GroupWord) → Lawful (word_group g)
 word_lawful (One f) = factor_lawful f

@@ -10,8 +10,8 @@ use scan::number::read_number;
 
 #[derive(Clone, Copy)]
 pub enum Factor {
-    Integers { modulus: u32 },
-    Vectors { bits: u32 },
+    Integers(Integers),
+    Vectors(Vectors),
 }
 
 impl Factor {
@@ -24,8 +24,8 @@ impl Factor {
         };
         let number = read_number(digits)?;
         match char::from(*letter) {
-            'Z' => Some(Factor::Integers { modulus: number }),
-            'X' => Some(Factor::Vectors { bits: number }),
+            'Z' => Some(Factor::Integers(Integers::new(number))),
+            'X' => Some(Factor::Vectors(Vectors::new(number))),
             _ => None,
         }
     }
@@ -38,22 +38,22 @@ impl Group for Factor {
 
     fn order(&self) -> u32 {
         match self {
-            Factor::Integers { modulus } => Integers::new(*modulus).order(),
-            Factor::Vectors { bits } => Vectors::new(*bits).order(),
+            Factor::Integers(group) => group.order(),
+            Factor::Vectors(group) => group.order(),
         }
     }
 
     fn sum(&self, a: u32, b: u32) -> u32 {
         match self {
-            Factor::Integers { modulus } => Integers::new(*modulus).sum(a, b),
-            Factor::Vectors { bits } => Vectors::new(*bits).sum(a, b),
+            Factor::Integers(group) => group.sum(a, b),
+            Factor::Vectors(group) => group.sum(a, b),
         }
     }
 
     fn opposite(&self, a: u32) -> u32 {
         match self {
-            Factor::Integers { modulus } => Integers::new(*modulus).opposite(a),
-            Factor::Vectors { bits } => Vectors::new(*bits).opposite(a),
+            Factor::Integers(group) => group.opposite(a),
+            Factor::Vectors(group) => group.opposite(a),
         }
     }
 }

@@ -11,6 +11,7 @@ use scan::pieces::Pieces;
 #[derive(Clone, Copy)]
 pub enum GroupWord {
     One(Factor),
+    // the factors themselves: a `Product` hands out neither of them
     Two(Factor, Factor),
 }
 

@@ -1,5 +1,4 @@
 pub mod Numbering
-pub mod Printing
 pub mod Telling
 pub mod Reading
 pub mod Progress

@@ -1,5 +1,5 @@
 -- What the calls of an order tell. Assumes nothing.
-use Rattle.std.proofs.Common.{◌≡◌, ℕ, [], ◌∷◌, sym, refl, ap, ◌∙◌, subst, inl, inr}
+use Rattle.std.proofs.Common.{◌≡◌, ℕ, [], ◌∷◌, Ok, Err, Result, sym, refl, ap, ◌∙◌, subst, inl, inr}
 use Rattle.coset.specs.Code.{Code}
 use Rattle.calls.specs.declared.call.Call.{Call}
 use Rattle.calls.specs.declared.call.Call.TheVariants.{Get, Put, Renew}
@@ -12,7 +12,9 @@ use Rattle.commands.specs.declared.command.Command.TheVariants.{Put as OrderPut,
 use Rattle.script.specs.declared.fault.OrderPlace.{OrderPlace}
 use Rattle.script.specs.declared.reply.Reply.{Reply}
 use Rattle.script.specs.declared.reply.Reply.TheVariants.{Wrote, Renewed, Holds}
-use Rattle.script.specs.Tells.{said, CallsOnce, OrderTells, Course}
+use Rattle.script.specs.declared.fault.ScriptFault.{ScriptFault}
+use Rattle.std.specs.Result.{MatchResult, IsOkAnd}
+use Rattle.script.specs.Tells.{said, refused, spoken, CallsOnce, OrderTells, Course}
 
 abbrev made : Call → Answer → State → State → Event
 made call answer before after = record { call = call; answer = answer; before = before; after = after }
@@ -27,6 +29,14 @@ once c call says a before after r obeys prints =
       obeys = (obeys, tt);
       tells = record { event = made call a before after; alone = refl; calls = refl; prints = prints };
     }
+
+-- what is replied to an answer is what is said of it
+pub replied_said :
+    (says : ℕ → Reply) (p : OrderPlace) (a : Answer) (q : Result Reply ScriptFault) →
+    MatchResult a (λ v. IsOkAnd q (λ y. y ≡ says v)) (λ f. q ≡ Err (refused p f)) → spoken q ≡ said p.line p.«record» p.value says a
+replied_said says p (Ok v) (Ok y) is = is
+replied_said says p (Ok v) (Err e) is = absurd is
+replied_said says p (Err f) q is = ap spoken is
 
 module _ (c : Code) (k : ℕ) (o : Command Number) (m x : Number) (p : OrderPlace) (at : p ≡ record { line = k; «record» = m.column; value = x.column })
     (before after : State) (a : Answer) (r : Reply) where

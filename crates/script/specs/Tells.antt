@@ -21,6 +21,7 @@ use Rattle.commands.specs.Orders.{Orders, line_spots}
 use Rattle.script.specs.declared.fault.Cause.{Cause}
 use Rattle.script.specs.declared.fault.Cause.TheVariants.{Line, Store}
 use Rattle.script.specs.declared.fault.ScriptFault.{ScriptFault}
+use Rattle.script.specs.declared.fault.OrderPlace.{OrderPlace}
 use Rattle.script.specs.declared.reply.Reply.{Reply}
 use Rattle.script.specs.declared.reply.Reply.TheVariants.{Made, Wrote, Renewed, Holds, Counted, Refused}
 
@@ -36,6 +37,10 @@ fault_column i j (Full k) = 1
 fault_column i j (Fits k) = 1
 fault_column i j (Unreached k) = 1
 fault_column i j (Device k f) = 1
+
+-- a refused call, with the place of its order
+abbrev pub refused : OrderPlace → StoreFault → ScriptFault
+refused p f = record { cause = Store f; line = p.line; column = fault_column p.«record» p.value f }
 
 -- what is printed of an answer at line k: its number, or the refusal, where the record's word is at i and the value's at j
 abbrev pub said : ℕ → ℕ → ℕ → (ℕ → Reply) → Answer → Reply

@@ -1,11 +1,10 @@
 // One line after the head: its order is read, its calls are made, and the reply is what they answered.
 // A refused line makes no call.
-ghost use Rattle.std.specs.Prelude.{◌≡◌, true, false};
+ghost use Rattle.std.specs.Prelude.{◌≡◌, true, false, MatchResult, IsOkAnd};
 ghost use Rattle.coset.specs.Code.{code};
 ghost use Rattle.calls.specs.Calls.{state_of};
 ghost use Rattle.calls.specs.Promise.{RefusedFull};
-ghost use Rattle.script.specs.declared.reply.Reply.TheVariants.{Wrote, Renewed, Holds};
-ghost use Rattle.script.specs.Tells.{said, OrderTells, LineTells, Course, spoken};
+ghost use Rattle.script.specs.Tells.{refused, OrderTells, LineTells, Course, spoken};
 
 use crate::fault::{OrderPlace, ScriptFault};
 use crate::lines::Line;
@@ -13,7 +12,6 @@ use crate::reply::Reply;
 use calls::fault::{Locate, StoreFault};
 use cells::array::{CellArray, Erasable};
 use commands::command::Order;
-use commands::word::Number;
 use group::interface::Group;
 use store::store::Store;
 
@@ -51,25 +49,32 @@ fn carry_out<G: Group, A: Erasable>(
     match order {
         Order::Put { record, value } => {
             let answer = store.put(record.value as usize, value.value);
-            wrote(OrderPlace::of(line, record, value), answer)
+            let place = OrderPlace::of(line, record, value);
+            replied(answer, place, |cells| Reply::Wrote { cells })
         }
         Order::Renew { record, value } => {
             let answer = store.renew(record.value as usize, value.value);
-            renewed(OrderPlace::of(line, record, value), answer)
+            let place = OrderPlace::of(line, record, value);
+            replied(answer, place, |cells| Reply::Renewed { cells })
         }
         Order::Save { record, value } => {
             let place = OrderPlace::of(line, record, value);
             let answer = store.put(record.value as usize, value.value);
             if is_full(answer) {
                 let again = store.renew(record.value as usize, value.value);
-                renewed(place, again)
+                replied(again, place, |cells| Reply::Renewed { cells })
             } else {
-                wrote(place, answer)
+                replied(answer, place, |cells| Reply::Wrote { cells })
             }
         }
         Order::Get { record } => {
             let answer = store.get(record.value as usize);
-            holds(line, record.column, answer)
+            let place = OrderPlace {
+                line,
+                record: record.column,
+                value: 1,
+            };
+            replied(answer, place, |value| Reply::Holds { value })
         }
         Order::Ledger => Ok(Reply::Counted {
             ledger: store.ledger(),
@@ -82,36 +87,18 @@ fn is_full(answer: Result<u32, StoreFault>) -> bool
     ensures full { result ≡ true → RefusedFull answer }
     ensures other { result ≡ false → RefusedFull answer → ⊥ }
 {
-    match answer {
-        Ok(_) => false,
-        Err(fault) => fault.number() == 42,
-    }
+    matches!(answer, Err(StoreFault::Full { .. }))
 }
 
-// The reply to a put.
-fn wrote(place: OrderPlace, answer: Result<u32, StoreFault>) -> Result<Reply, ScriptFault>
-    ensures { spoken result ≡ said place.line place.«record» place.value Wrote answer }
+// What is replied to an answer, or its refusal with the place of its order.
+fn replied<F: FnOnce(u32) -> Reply>(
+    answer: Result<u32, StoreFault>,
+    place: OrderPlace,
+    reply: F,
+) -> Result<Reply, ScriptFault>
+    requires { F.IsAlwaysCallable reply }
+    ensures { MatchResult answer (λ v. IsOkAnd result (F.post reply v)) (λ f. result ≡ Err (refused place f)) }
 {
-    let cells = answer.located_at(place)?;
-    Ok(Reply::Wrote { cells })
-}
-
-// The reply to a renewal.
-fn renewed(place: OrderPlace, answer: Result<u32, StoreFault>) -> Result<Reply, ScriptFault>
-    ensures { spoken result ≡ said place.line place.«record» place.value Renewed answer }
-{
-    let cells = answer.located_at(place)?;
-    Ok(Reply::Renewed { cells })
-}
-
-// The reply to a get, whose record is at this column.
-fn holds(line: usize, column: usize, answer: Result<u32, StoreFault>) -> Result<Reply, ScriptFault>
-    ensures { spoken result ≡ said line column 1 Holds answer }
-{
-    let value = answer.located_at(OrderPlace {
-        line,
-        record: column,
-        value: 1,
-    })?;
-    Ok(Reply::Holds { value })
+    let value = answer.located_at(place)?;
+    Ok(reply(value))
 }

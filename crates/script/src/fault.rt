@@ -1,10 +1,11 @@
 // Faults of a script: what a line, a making or a call was refused for, whole, with the line and the column.
 // Each cause has the number and the place letter of the table of refusals.
-ghost use Rattle.std.specs.Prelude.{◌≡◌};
+ghost use Rattle.std.specs.Prelude.{◌≡◌, Some};
 ghost use Rattle.script.specs.declared.fault.Cause.TheVariants.{Line, Image, Making, Store};
 ghost use Rattle.script.specs.Faults.{cause_number, cause_letter};
+ghost use Rattle.script.specs.Replies.{fault_shown};
 ghost use Rattle.script.specs.declared.fault.Stop.TheVariants.{Fault, NoMemory};
-ghost use Rattle.script.specs.Tells.{fault_column};
+ghost use Rattle.script.specs.Tells.{refused};
 ghost use Rattle.script.specs.Stops.{image_stop, making_stop};
 
 use calls::fault::StoreFault;
@@ -13,6 +14,7 @@ use commands::head::Heading;
 use commands::word::Number;
 use images::fault::{ImageError, ImageFault};
 use std::alloc::AllocError;
+use std::fmt;
 use store::making::MakingFault;
 
 #[derive(Clone, Copy, PartialEq, Debug)]
@@ -58,6 +60,17 @@ pub struct ScriptFault {
     pub column: usize,
 }
 
+// Its number, the letter of its place, its line and its column.
+impl fmt::Display for ScriptFault {
+    ghost output = { λ f. Some (fault_shown f) };
+
+    fn fmt<W: fmt::Write>(&self, f: &mut fmt::Formatter<W>) -> fmt::Result {
+        let number = self.cause.number();
+        let letter = self.cause.letter();
+        write!(f, "{number} {letter} {} {}", self.line, self.column)
+    }
+}
+
 // A refused line, with its number.
 impl From<(usize, Refusal)> for ScriptFault {
     ghost from_gives = { λ e r. r ≡ record { cause = Line e.1.fault; line = e.0; column = e.1.column } };
@@ -94,7 +107,7 @@ impl OrderPlace {
 
 // A refused call, with the place of its order.
 impl From<(OrderPlace, StoreFault)> for ScriptFault {
-    ghost from_gives = { λ e r. r ≡ record { cause = Store e.1; line = e.0.line; column = fault_column e.0.«record» e.0.value e.1 } };
+    ghost from_gives = { λ e r. r ≡ refused e.0 e.1 };
 
     fn from(refusal: (OrderPlace, StoreFault)) -> ScriptFault {
         let (place, fault) = refusal;

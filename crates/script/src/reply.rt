@@ -27,26 +27,22 @@ impl fmt::Display for Reply {
 
     fn fmt<W: fmt::Write>(&self, f: &mut fmt::Formatter<W>) -> fmt::Result {
         match self {
-            Reply::Made { records } => write!(f, "M {records}\n"),
-            Reply::Wrote { cells } => write!(f, "W {cells}\n"),
-            Reply::Renewed { cells } => write!(f, "E {cells}\n"),
-            Reply::Holds { value } => write!(f, "V {value}\n"),
+            Reply::Made { records } => writeln!(f, "M {records}"),
+            Reply::Wrote { cells } => writeln!(f, "W {cells}"),
+            Reply::Renewed { cells } => writeln!(f, "E {cells}"),
+            Reply::Holds { value } => writeln!(f, "V {value}"),
             Reply::Counted { ledger } => {
-                let changes = ledger.changes;
-                let renewals = ledger.renewals;
-                let marked = ledger.marked;
+                let Ledger {
+                    changes,
+                    renewals,
+                    marked,
+                } = ledger;
                 match ledger.rate() {
-                    Some(rate) => write!(f, "N {changes} {renewals} {marked} {rate}\n"),
-                    None => write!(f, "N {changes} {renewals} {marked} -\n"),
+                    Some(rate) => writeln!(f, "N {changes} {renewals} {marked} {rate}"),
+                    None => writeln!(f, "N {changes} {renewals} {marked} -"),
                 }
             }
-            Reply::Refused { fault } => {
-                let number = fault.cause.number();
-                let letter = fault.cause.letter();
-                let line = fault.line;
-                let column = fault.column;
-                write!(f, "X {number} {letter} {line} {column}\n")
-            }
+            Reply::Refused { fault } => writeln!(f, "X {fault}"),
         }
     }
 }
@@ -57,8 +53,7 @@ pub(crate) fn print_all(heap: Global, replies: &[Reply]) -> Result<String, Alloc
 {
     let mut text = String::new(heap);
     for reply in replies {
-        let line = format!(in heap; "{reply}")?;
-        text.push_str(&line)?;
+        write!(text, "{reply}")?;
     }
     Ok(text)
 }

@@ -1,76 +1,53 @@
-use Rattle.std.proofs.Common.{refl, ◌∙◌, subst₂}
+use Rattle.std.proofs.Common.{rules, subst₂}
 use Rattle.coset.specs.Code.{code}
-use Rattle.calls.specs.declared.call.Call.TheVariants.{Renew}
+use Rattle.calls.specs.declared.call.Call.TheVariants.{Renew as RenewCall}
 use Rattle.calls.specs.Calls.{state_of, Obeys}
+use Rattle.script.specs.declared.reply.Reply.TheVariants.{Wrote, Renewed, Holds}
 use Rattle.script.specs.Tells.{spoken}
-use Rattle.script.proofs.Telling.{tells_put, tells_renew, tells_saved, tells_renewed, tells_get}
+use Rattle.script.proofs.Telling.{tells_put, tells_renew, tells_saved, tells_renewed, tells_get, replied_said}
 use Rattle.script.proofs.answer.carry_out.Goals as goal
 
-pub returns-in-Put : goal.returns-in-Put
-returns-in-Put g c =
-    let co = code (g.G.Group.meaning c.args.store.now.group) c.args.store.now.n in
+pub returns-in-Put-clause-course : goal.returns-in-Put-clause-course
+returns-in-Put-clause-course g c =
     let before = state_of (g.A.CellArray.cells c.args.store.now.array) c.args.store.now.ledger in
     let after = state_of (g.A.CellArray.cells c.put-answer.new.self.array) c.put-answer.new.self.ledger in
-    record {
-      group = c.put-answer.ensures.group;
-      n = c.put-answer.ensures.n;
-      course =
-          tells_put co c.args.line c.args.order c.in-Put.«record» c.in-Put.value c.of.result c.of.ensures before after c.put-answer.result
-          (spoken c.wrote.result) c.in-Put.is c.put-answer.ensures.obeys c.wrote.ensures;
-    }
+    tells_put (code (g.G.Group.meaning c.args.store.now.group) c.args.store.now.n) c.args.line c.args.order c.in-Put.«record» c.in-Put.value c.of-place.result c.of-place.ensures
+    before after c.put-answer.result (spoken c.replied.result) c.in-Put.is c.put-answer.ensures.obeys
+    (replied_said Wrote c.of-place.result c.put-answer.result c.replied.result (search rules))
 
-pub returns-in-Renew : goal.returns-in-Renew
-returns-in-Renew g c =
-    let co = code (g.G.Group.meaning c.args.store.now.group) c.args.store.now.n in
+pub returns-in-Renew-clause-course : goal.returns-in-Renew-clause-course
+returns-in-Renew-clause-course g c =
     let before = state_of (g.A.CellArray.cells c.args.store.now.array) c.args.store.now.ledger in
     let after = state_of (g.A.CellArray.cells c.renew-answer.new.self.array) c.renew-answer.new.self.ledger in
-    record {
-      group = c.renew-answer.ensures.group;
-      n = c.renew-answer.ensures.n;
-      course =
-          tells_renew co c.args.line c.args.order c.in-Renew.«record» c.in-Renew.value c.of-in-Renew.result c.of-in-Renew.ensures before after c.renew-answer.result
-          (spoken c.renewed.result) c.in-Renew.is c.renew-answer.ensures.obeys c.renewed.ensures;
-    }
+    tells_renew (code (g.G.Group.meaning c.args.store.now.group) c.args.store.now.n) c.args.line c.args.order c.in-Renew.«record» c.in-Renew.value c.of-place-in-Renew.result c.of-place-in-Renew.ensures
+    before after c.renew-answer.result (spoken c.replied-in-Renew.result) c.in-Renew.is c.renew-answer.ensures.obeys
+    (replied_said Renewed c.of-place-in-Renew.result c.renew-answer.result c.replied-in-Renew.result (search rules))
 
-pub returns-else-is_full : goal.returns-else-is_full
-returns-else-is_full g c =
-    let co = code (g.G.Group.meaning c.args.store.now.group) c.args.store.now.n in
+pub returns-else-is_full-clause-course : goal.returns-else-is_full-clause-course
+returns-else-is_full-clause-course g c =
     let before = state_of (g.A.CellArray.cells c.args.store.now.array) c.args.store.now.ledger in
     let after = state_of (g.A.CellArray.cells c.put-answer-in-Save.new.self.array) c.put-answer-in-Save.new.self.ledger in
-    record {
-      group = c.put-answer-in-Save.ensures.group;
-      n = c.put-answer-in-Save.ensures.n;
-      course =
-          tells_saved co c.args.line c.args.order c.in-Save.«record» c.in-Save.value c.of-place.result c.of-place.ensures before after c.put-answer-in-Save.result
-          (spoken c.wrote-else-is_full.result) c.in-Save.is c.put-answer-in-Save.ensures.obeys (c.is_full.ensures.other c.if-is_full.false) c.wrote-else-is_full.ensures;
-    }
+    tells_saved (code (g.G.Group.meaning c.args.store.now.group) c.args.store.now.n) c.args.line c.args.order c.in-Save.«record» c.in-Save.value c.of-place-in-Save.result
+    c.of-place-in-Save.ensures before after c.put-answer-in-Save.result (spoken c.replied-else-is_full.result) c.in-Save.is
+    c.put-answer-in-Save.ensures.obeys (c.is_full.ensures.other c.if-is_full.false)
+    (replied_said Wrote c.of-place-in-Save.result c.put-answer-in-Save.result c.replied-else-is_full.result (search rules))
 
-pub returns-then-is_full : goal.returns-then-is_full
-returns-then-is_full g c =
-    let co = code (g.G.Group.meaning c.args.store.now.group) c.args.store.now.n in
+pub returns-then-is_full-clause-course : goal.returns-then-is_full-clause-course
+returns-then-is_full-clause-course g c =
     let before = state_of (g.A.CellArray.cells c.args.store.now.array) c.args.store.now.ledger in
     let mid = state_of (g.A.CellArray.cells c.put-answer-in-Save.new.self.array) c.put-answer-in-Save.new.self.ledger in
     let after = state_of (g.A.CellArray.cells c.renew-again.new.self.array) c.renew-again.new.self.ledger in
     let put = c.put-answer-in-Save.ensures in
     let again = c.renew-again.ensures in
-    record {
-      group = again.group ∙ put.group;
-      n = again.n ∙ put.n;
-      course =
-          tells_renewed co c.args.line c.args.order c.in-Save.«record» c.in-Save.value c.of-place.result c.of-place.ensures before after c.renew-again.result
-          (spoken c.renewed-then-is_full.result) c.put-answer-in-Save.result mid c.in-Save.is put.obeys (c.is_full.ensures.full c.if-is_full.true)
-          (subst₂ (λ gr n. Obeys (code (g.G.Group.meaning gr) n) (Renew c.in-Save.«record».value c.in-Save.value.value) c.renew-again.result mid after) put.group put.n again.obeys)
-          c.renewed-then-is_full.ensures;
-    }
+    tells_renewed (code (g.G.Group.meaning c.args.store.now.group) c.args.store.now.n) c.args.line c.args.order c.in-Save.«record» c.in-Save.value c.of-place-in-Save.result
+    c.of-place-in-Save.ensures before after c.renew-again.result (spoken c.replied-then-is_full.result) c.put-answer-in-Save.result mid c.in-Save.is
+    put.obeys (c.is_full.ensures.full c.if-is_full.true)
+    (subst₂ (λ gr n. Obeys (code (g.G.Group.meaning gr) n) (RenewCall c.in-Save.«record».value c.in-Save.value.value) c.renew-again.result mid after) put.group put.n again.obeys)
+    (replied_said Renewed c.of-place-in-Save.result c.renew-again.result c.replied-then-is_full.result (search rules))
 
-pub returns-in-Get : goal.returns-in-Get
-returns-in-Get g c =
-    let co = code (g.G.Group.meaning c.args.store.now.group) c.args.store.now.n in
+pub returns-in-Get-clause-course : goal.returns-in-Get-clause-course
+returns-in-Get-clause-course g c =
     let before = state_of (g.A.CellArray.cells c.args.store.now.array) c.args.store.now.ledger in
-    record {
-      group = refl;
-      n = refl;
-      course =
-          tells_get co c.args.line c.args.order c.in-Get.«record» before before c.get-answer.result (spoken c.holds.result) c.in-Get.is c.get-answer.ensures
-          c.holds.ensures;
-    }
+    tells_get (code (g.G.Group.meaning c.args.store.now.group) c.args.store.now.n) c.args.line c.args.order c.in-Get.«record» before before c.get-answer.result
+    (spoken c.replied-in-Get.result) c.in-Get.is c.get-answer.ensures
+    (replied_said Holds (record { line = c.args.line; «record» = c.in-Get.«record».column; value = 1 }) c.get-answer.result c.replied-in-Get.result (search rules))
