@@ -11,7 +11,7 @@ use Rattle.commands.specs.declared.word.Number.{Number}
 use Rattle.commands.specs.declared.command.Command.TheVariants.{Put as OrderPut, Renew as OrderRenew, Save as OrderSave, Get as OrderGet}
 use Rattle.script.specs.declared.fault.OrderPlace.{OrderPlace}
 use Rattle.script.specs.declared.reply.Reply.{Reply}
-use Rattle.script.specs.declared.reply.Reply.TheVariants.{Wrote, Renewed, Holds}
+use Rattle.script.specs.declared.reply.Reply.TheVariants.{Wrote, Renewed, Holds, Refused}
 use Rattle.script.specs.declared.fault.ScriptFault.{ScriptFault}
 use Rattle.std.specs.Result.{MatchResult, IsOkAnd}
 use Rattle.script.specs.Tells.{said, refused, spoken, CallsOnce, OrderTells, Course}
@@ -29,6 +29,11 @@ once c call says a before after r obeys prints =
       obeys = (obeys, tt);
       tells = record { event = made call a before after; alone = refl; calls = refl; prints = prints };
     }
+
+-- a fault is spoken as a refusal
+pub spoken_is : (q : Result Reply ScriptFault) (r : Reply) → MatchResult q (λ x. r ≡ x) (λ e. r ≡ Refused e) → r ≡ spoken q
+spoken_is (Ok x) r is = is
+spoken_is (Err e) r is = is
 
 -- what is replied to an answer is what is said of it
 pub replied_said :

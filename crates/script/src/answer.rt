@@ -21,10 +21,7 @@ pub(crate) fn answer_line<G: Group, A: Erasable>(store: &mut Store<G, A>, line: 
     ensures n { store.new.n ≡ store.old.n }
     ensures course { Course (code (G.Group.meaning store.old.group) store.old.n) (λ h. LineTells line.entry.number line.entry.bytes.now (state_of (A.CellArray.cells store.old.array) store.old.ledger) h result) (state_of (A.CellArray.cells store.old.array) store.old.ledger) (state_of (A.CellArray.cells store.new.array) store.new.ledger) }
 {
-    match obey(store, line) {
-        Ok(reply) => reply,
-        Err(fault) => Reply::Refused { fault },
-    }
+    obey(store, line).unwrap_or_else(|fault| Reply::Refused { fault })
 }
 
 fn obey<G: Group, A: Erasable>(store: &mut Store<G, A>, line: Line) -> Result<Reply, ScriptFault>

@@ -45,6 +45,7 @@ impl<'a> Iterator for Lines<'a> {
     ghost remaining = { item_count lines_left };
 
     fn next(&mut self) -> Option<Line<'a>> {
+        // No `for`: it would lend the pieces out of the struct, whose fact then no longer holds of itself.
         while let Some(piece) = self.pieces.next() {
             self.number += 1;
             if !piece.bytes.is_empty() {

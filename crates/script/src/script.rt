@@ -25,10 +25,6 @@ pub fn answer_script(heap: Global, script: &[u8]) -> Result<Vec<Reply>, AllocErr
     match start(heap, script) {
         Ok(replies) => Ok(replies),
         Err(Stop::NoMemory) => Err(AllocError),
-        Err(Stop::Fault(fault)) => {
-            let mut refusal = Vec::new(heap);
-            refusal.push(Reply::Refused { fault })?;
-            Ok(refusal)
-        }
+        Err(Stop::Fault(fault)) => Ok(vec![in heap; Reply::Refused { fault }]?),
     }
 }
