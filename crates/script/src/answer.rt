@@ -4,6 +4,7 @@ ghost use Rattle.std.specs.Prelude.{◌≡◌, true, false, MatchResult, IsOkAnd
 ghost use Rattle.coset.specs.Code.{code};
 ghost use Rattle.calls.specs.Calls.{state_of};
 ghost use Rattle.calls.specs.Promise.{RefusedFull};
+ghost use Rattle.store.specs.Keeps.{Keeps};
 ghost use Rattle.script.specs.Tells.{refused, OrderTells, LineTells, Course, spoken};
 
 use crate::fault::{OrderPlace, ScriptFault};
@@ -17,16 +18,14 @@ use store::store::Store;
 
 // Reads a line, and carries its order out.
 pub(crate) fn answer_line<G: Group, A: Erasable>(store: &mut Store<G, A>, line: Line) -> Reply
-    ensures group { store.new.group ≡ store.old.group }
-    ensures n { store.new.n ≡ store.old.n }
+    ensures keeps { Keeps A.CellArray.held A.CellArray.intact store.old store.new }
     ensures course { Course (code (G.Group.meaning store.old.group) store.old.n) (λ h. LineTells line.entry.number line.entry.bytes.now (state_of (A.CellArray.cells store.old.array) store.old.ledger) h result) (state_of (A.CellArray.cells store.old.array) store.old.ledger) (state_of (A.CellArray.cells store.new.array) store.new.ledger) }
 {
     obey(store, line).unwrap_or_else(|fault| Reply::Refused { fault })
 }
 
 fn obey<G: Group, A: Erasable>(store: &mut Store<G, A>, line: Line) -> Result<Reply, ScriptFault>
-    ensures group { store.new.group ≡ store.old.group }
-    ensures n { store.new.n ≡ store.old.n }
+    ensures keeps { Keeps A.CellArray.held A.CellArray.intact store.old store.new }
     ensures course { Course (code (G.Group.meaning store.old.group) store.old.n) (λ h. LineTells line.entry.number line.entry.bytes.now (state_of (A.CellArray.cells store.old.array) store.old.ledger) h (spoken result)) (state_of (A.CellArray.cells store.old.array) store.old.ledger) (state_of (A.CellArray.cells store.new.array) store.new.ledger) }
 {
     let order = Order::read(line.bytes).located_at(line.number)?;
@@ -39,8 +38,7 @@ fn carry_out<G: Group, A: Erasable>(
     line: usize,
     order: Order,
 ) -> Result<Reply, ScriptFault>
-    ensures group { store.new.group ≡ store.old.group }
-    ensures n { store.new.n ≡ store.old.n }
+    ensures keeps { Keeps A.CellArray.held A.CellArray.intact store.old store.new }
     ensures course { Course (code (G.Group.meaning store.old.group) store.old.n) (λ h. OrderTells line order (state_of (A.CellArray.cells store.old.array) store.old.ledger) h (spoken result)) (state_of (A.CellArray.cells store.old.array) store.old.ledger) (state_of (A.CellArray.cells store.new.array) store.new.ledger) }
 {
     match order {

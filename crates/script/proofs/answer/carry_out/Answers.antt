@@ -42,7 +42,7 @@ returns-then-is_full-clause-course g c =
     tells_renewed (code (g.G.Group.meaning c.args.store.now.group) c.args.store.now.n) c.args.line c.args.order c.in-Save.«record» c.in-Save.value c.of-place-in-Save.result
     c.of-place-in-Save.ensures before after c.renew-again.result (spoken c.replied-then-is_full.result) c.put-answer-in-Save.result mid c.in-Save.is
     put.obeys (c.is_full.ensures.full c.if-is_full.true)
-    (subst₂ (λ gr n. Obeys (code (g.G.Group.meaning gr) n) (RenewCall c.in-Save.«record».value c.in-Save.value.value) c.renew-again.result mid after) put.group put.n again.obeys)
+    (subst₂ (λ gr n. Obeys (code (g.G.Group.meaning gr) n) (RenewCall c.in-Save.«record».value c.in-Save.value.value) c.renew-again.result mid after) put.keeps.0 put.keeps.1 again.obeys)
     (replied_said Renewed c.of-place-in-Save.result c.renew-again.result c.replied-then-is_full.result (search rules))
 
 pub returns-in-Get-clause-course : goal.returns-in-Get-clause-course

@@ -18,8 +18,7 @@ returns-in_err-order g c =
     let p = err_from_is_err_and c.from_residual.result c.from_residual.ensures.1 in
     let fault = read_refused (line_spots l) (Orders l) k c.read.result e (sym c.located_at.ensures ∙ c.in_err-order.was) c.read.ensures in
     record {
-      group = refl;
-      n = refl;
+      keeps = (refl, refl, (refl, λ whole. whole));
       course = tells_refused co k l e (spoken c.from_residual.result) s fault.0 fault.1 (ap spoken p.1 ∙ ap Refused p.2);
     }
 
@@ -32,7 +31,6 @@ returns g c =
     let k = c.args.line.number in
     let read = read_passed (line_spots l) (Orders l) k c.read.result c.in_ok-order.order (sym c.located_at.ensures ∙ c.in_ok-order.was) c.read.ensures in
     record {
-      group = c.carry_out.ensures.group;
-      n = c.carry_out.ensures.n;
+      keeps = c.carry_out.ensures.keeps;
       course = tells_obeyed co k l c.in_ok-order.order (spoken c.carry_out.result) before after read c.carry_out.ensures.course;
     }

@@ -25,8 +25,8 @@ loop-line-preserved g c =
     let next = state_of (g.A.CellArray.cells c.answer_line.new.store.array) c.answer_line.new.store.ledger in
     let l = line_of c.in-Some.line in
     let answered = c.answer_line.ensures in (
-      answered.group ∙ inv.0,
-      answered.n ∙ inv.1,
+      answered.keeps.0 ∙ inv.0,
+      answered.keeps.1 ∙ inv.1,
       progress_more co first now next (lines_left c.into_iter-line-iterator.result) (lines_left c.loop-line.line-iterator) l (lines_left c.next.new.self)
           (Made (records co (g.A.CellArray.cells c.args.store.now.array))) c.answer_line.result (vec_items c.loop-line.replies) (vec_items c.push-in-loop-line.new.self)
           inv.2 c.in-Some.ensures.steps c.in_ok-push-2.ensures.items
