@@ -28,7 +28,7 @@ pub trait CellArray {
     fn width(&self) -> usize
         ensures { result ≡ (cells self.now).width };
 
-    // Whether there is such a page.
+    // That there is such a page, or the fault of every call that names it.
     fn check_page(&self, page: usize) -> Result<(), DeviceFault>
         ensures { FindsPage (cells self.now) page result }
     {
@@ -38,7 +38,7 @@ pub trait CellArray {
         Ok(())
     }
 
-    // Whether there is such a cell.
+    // That there is such a cell, or the fault of every call that names it.
     fn check_cell(&self, page: usize, cell: usize) -> Result<(), DeviceFault>
         ensures { FindsCell (cells self.now) page cell result }
     {

@@ -102,10 +102,8 @@ impl Format {
         ensures { Decides result (Stray self layout.pages layout.width image.now page) }
     {
         let at = layout.page_at(self, page);
-        (layout.width..8 * layout.page_bytes()).any(|place| self.reads(
-            image[at + place / 8],
-            place % 8,
-        ))
+        let mut unused = layout.width..8 * layout.page_bytes();
+        unused.any(|place| self.reads(image[at + place / 8], place % 8))
     }
 }
 
