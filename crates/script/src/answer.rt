@@ -64,11 +64,7 @@ fn carry_out<G: Group, A: Erasable>(
         }
         Order::Get { record } => {
             let answer = store.get(record.value as usize);
-            let place = OrderPlace {
-                line,
-                record: record.column,
-                value: 1,
-            };
+            let place = OrderPlace::of_get(line, record);
             replied(answer, place, |value| Reply::Holds { value })
         }
         Order::Ledger => Ok(Reply::Counted {

@@ -45,10 +45,8 @@ impl Cause {
             Cause::Line(_) => "T",
             Cause::Image(_) => "I",
             Cause::Making(_) => "M",
-            Cause::Store(fault) => match fault {
-                StoreFault::Device { .. } => "D",
-                _ => "S",
-            },
+            Cause::Store(StoreFault::Device { .. }) => "D",
+            Cause::Store(_) => "S",
         }
     }
 }
@@ -101,6 +99,17 @@ impl OrderPlace {
             line,
             record: record.column,
             value: value.column,
+        }
+    }
+
+    // where a get stands, whose order has no value
+    pub(crate) fn of_get(line: usize, record: Number) -> OrderPlace
+        ensures { result ≡ record { line = line; «record» = «record».column; value = 1 } }
+    {
+        OrderPlace {
+            line,
+            record: record.column,
+            value: 1,
         }
     }
 }

@@ -1,9 +1,10 @@
-use Rattle.std.proofs.Common.{rules, subst₂}
+use Rattle.std.proofs.Common.{ap, ◌∙◌, rules, subst₂}
 use Rattle.coset.specs.Code.{code}
 use Rattle.calls.specs.declared.call.Call.TheVariants.{Renew as RenewCall}
 use Rattle.calls.specs.Calls.{state_of, Obeys}
+use Rattle.script.specs.declared.fault.OrderPlace.{OrderPlace}
 use Rattle.script.specs.declared.reply.Reply.TheVariants.{Wrote, Renewed, Holds}
-use Rattle.script.specs.Tells.{spoken}
+use Rattle.script.specs.Tells.{said, spoken}
 use Rattle.script.proofs.Telling.{tells_put, tells_renew, tells_saved, tells_renewed, tells_get, replied_said}
 use Rattle.script.proofs.answer.carry_out.Goals as goal
 
@@ -50,4 +51,5 @@ returns-in-Get-clause-course g c =
     let before = state_of (g.A.CellArray.cells c.args.store.now.array) c.args.store.now.ledger in
     tells_get (code (g.G.Group.meaning c.args.store.now.group) c.args.store.now.n) c.args.line c.args.order c.in-Get.«record» before before c.get-answer.result
     (spoken c.replied-in-Get.result) c.in-Get.is c.get-answer.ensures
-    (replied_said Holds (record { line = c.args.line; «record» = c.in-Get.«record».column; value = 1 }) c.get-answer.result c.replied-in-Get.result (search rules))
+    (replied_said Holds c.of_get-place.result c.get-answer.result c.replied-in-Get.result (search rules)
+    ∙ ap (λ (p : OrderPlace). said p.line p.«record» p.value Holds c.get-answer.result) c.of_get-place.ensures)
