@@ -1,5 +1,5 @@
 -- Factors and group words: what is spelt, and that nothing else is. Assumes nothing.
-use Rattle.std.proofs.Common.{◌≡◌, ℕ, ◌<◌, true, false, List, [], ◌∷◌, ◌++◌, length, get_or, is_some, Some, None, decimal, Option, sym, refl, ap, ◌∙◌, arith}
+use Rattle.std.proofs.Common.{◌≡◌, ℕ, ◌<◌, List, [], ◌∷◌, ◌++◌, length, get_or, decimal, sym, ap, ◌∙◌, arith}
 use Rattle.group.specs.declared.integers.Integers.{Integers as Modulo}
 use Rattle.group.specs.declared.vectors.Vectors.{Vectors as Bits}
 use Rattle.commands.specs.declared.factor.Factor.{Factor}
@@ -7,10 +7,7 @@ use Rattle.commands.specs.declared.factor.Factor.TheVariants.{Integers, Vectors}
 use Rattle.commands.specs.declared.group_word.GroupWord.{GroupWord}
 use Rattle.commands.specs.declared.group_word.GroupWord.TheVariants.{One, Two}
 use Rattle.scan.specs.Numbers.{Spells}
-use Rattle.std.proofs.lemmas.Bool.{both_ways}
-use Rattle.scan.specs.declared.pieces.Piece.{Piece}
-use Rattle.scan.specs.declared.pieces.Pieces.{Pieces}
-use Rattle.scan.specs.Pieces.{cut, joined, left, Lacks, Nexts}
+use Rattle.scan.specs.Pieces.{cut, joined, left, Lacks}
 use Rattle.scan.proofs.Cutting.{lacks_more, cut_alone, cut_first, joined_cut}
 use Rattle.scan.proofs.Spelling.{decimal_lacks}
 use Rattle.commands.specs.Groups.{factor_spelt, group_spelt, SmallFactor, SmallGroup, SpellsFactor, SpellsGroup}
@@ -86,12 +83,3 @@ module _ (w p : List ℕ) (ps : List (List ℕ)) (first : cut 46 w ≡ p ∷ ps)
   pub no_third : (q r : List ℕ) (rs : List (List ℕ)) → ps ≡ q ∷ (r ∷ rs) → (g : GroupWord) → SpellsGroup w g → ⊥
   no_third q r rs more (One f) spells = let same = same_pieces (One f) spells in let z : ◌≡◌ {A = ℕ} 0 1 = cc in omega arith
   no_third q r rs more (Two f g) spells = let same = same_pieces (Two f g) spells in let z : ◌≡◌ {A = ℕ} 0 1 = cc in omega arith
-
--- what was left, by the test whether a piece was taken
-pub was_some : (s t : Pieces) (r : Option Piece) → is_some r ≡ true → Nexts s r t → (p : List ℕ) × (left s ≡ p ∷ left t)
-was_some s t None e nexts = absurd (both_ways false refl e)
-was_some s t (Some p) e nexts = (p.bytes.now, nexts.first)
-
-pub was_none : (s t : Pieces) (r : Option Piece) → is_some r ≡ false → Nexts s r t → left s ≡ []
-was_none s t None e nexts = nexts.0
-was_none s t (Some p) e nexts = absurd (both_ways true e refl)

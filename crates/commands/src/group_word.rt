@@ -22,13 +22,11 @@ impl GroupWord {
     {
         let mut pieces = Pieces::of(bytes, b'.');
         let first = Factor::read(pieces.next()?.bytes)?;
-        let Some(second) = pieces.next() else {
-            return Some(GroupWord::One(first));
-        };
-        if pieces.next().is_some() {
-            return None;
+        match (pieces.next(), pieces.next()) {
+            (None, _) => Some(GroupWord::One(first)),
+            (Some(second), None) => Some(GroupWord::Two(first, Factor::read(second.bytes)?)),
+            _ => None,
         }
-        Some(GroupWord::Two(first, Factor::read(second.bytes)?))
     }
 }
 

@@ -1,39 +1,40 @@
-use Rattle.std.proofs.Common.{◌∷◌, sym, ap, ◌∙◌}
-use Rattle.scan.specs.Pieces.{left}
-use Rattle.commands.proofs.Spelling.{spells_one, spells_two, no_first, no_second, no_third, was_some, was_none}
+use Rattle.std.proofs.Common.{◌≡◌, ◌∷◌, sym, ap, ◌∙◌}
+use Rattle.scan.specs.Pieces.{cut, left}
+use Rattle.commands.proofs.Spelling.{spells_one, spells_two, no_first, no_second, no_third}
 use Rattle.commands.proofs.group_word.GroupWord.read.Goals as goal
+use Rattle.commands.proofs.group_word.GroupWord.read.Goals.{In_ok-next}
+
+-- the bytes are cut into the first piece and those that are left after it
+first : (c : In_ok-next) → cut 46 c.args.bytes.now ≡ c.in_ok-next.field-0.bytes.now ∷ left c.next.new.self
+first c = sym c.of-pieces.ensures.left ∙ c.in_ok-next.ensures.steps.first
 
 pub returns-in_err-first : goal.returns-in_err-first
 returns-in_err-first c =
-    let taken = c.in_ok-next.ensures.steps in
     rw c.from_residual-in_err-first.ensures
-    (no_first c.args.bytes.now c.in_ok-next.field-0.bytes.now (left c.next.new.self) (sym c.of-pieces.ensures.left ∙ taken.first)
+    (no_first c.args.bytes.now c.in_ok-next.field-0.bytes.now (left c.next.new.self) (first (goal.at.returns-in_err-first c).In_ok-next)
     c.in_err-first.ensures)
+
+pub returns-in_err-read-in-Some-None : goal.returns-in_err-read-in-Some-None
+returns-in_err-read-in-Some-None c =
+    rw c.from_residual-in_err-read-in-Some-None.ensures
+    (no_second c.args.bytes.now c.in_ok-next.field-0.bytes.now (left c.next.new.self) (first (goal.at.returns-in_err-read-in-Some-None c).In_ok-next)
+    c.in-Some-None.second.bytes.now (left c.next-2.new.self) c.in-Some-None.ensures.steps.first c.in_err-read-in-Some-None.ensures)
+
+pub returns-in-None-default : goal.returns-in-None-default
+returns-in-None-default c =
+    spells_one c.args.bytes.now c.in_ok-next.field-0.bytes.now (left c.next.new.self) (first (goal.at.returns-in-None-default c).In_ok-next)
+    c.in_ok-first.first c.in-None-default.ensures.steps.0 c.in_ok-first.ensures
+
+pub returns-in_ok-read-in-Some-None : goal.returns-in_ok-read-in-Some-None
+returns-in_ok-read-in-Some-None c =
+    let second = c.in-Some-None.second.bytes.now in
+    spells_two c.args.bytes.now c.in_ok-next.field-0.bytes.now (left c.next.new.self) (first (goal.at.returns-in_ok-read-in-Some-None c).In_ok-next)
+    c.in_ok-first.first c.in_ok-read-in-Some-None.field-0 second
+    (c.in-Some-None.ensures.steps.first ∙ ap (λ qs. second ∷ qs) c.in-Some-None.ensures'.steps.0) c.in_ok-first.ensures c.in_ok-read-in-Some-None.ensures
 
 pub returns-in_default : goal.returns-in_default
 returns-in_default c =
-    let taken = c.in_ok-next.ensures.steps in
-    spells_one c.args.bytes.now c.in_ok-next.field-0.bytes.now (left c.next.new.self) (sym c.of-pieces.ensures.left ∙ taken.first)
-    c.in_ok-first.first c.in_default.ensures.steps.0 c.in_ok-first.ensures
-
-pub returns-in_err-read : goal.returns-in_err-read
-returns-in_err-read c =
-    let taken = c.in_ok-next.ensures.steps in
-    rw c.from_residual-in_err-read.ensures
-    (no_second c.args.bytes.now c.in_ok-next.field-0.bytes.now (left c.next.new.self) (sym c.of-pieces.ensures.left ∙ taken.first)
-    c.in-Some.second.bytes.now (left c.next-2.new.self) c.in-Some.ensures.steps.first c.in_err-read.ensures)
-
-pub returns-then-is_some : goal.returns-then-is_some
-returns-then-is_some c =
-    let taken = c.in_ok-next.ensures.steps in
-    let third = was_some c.next-2.new.self c.next-3.new.self c.next-3.result (sym c.is_some.ensures ∙ c.if-is_some.true) c.next-3.ensures.steps in
-    no_third c.args.bytes.now c.in_ok-next.field-0.bytes.now (left c.next.new.self) (sym c.of-pieces.ensures.left ∙ taken.first)
-    c.in-Some.second.bytes.now third.0 (left c.next-3.new.self) (c.in-Some.ensures.steps.first ∙ ap (λ qs. c.in-Some.second.bytes.now ∷ qs) third.1)
-
-pub returns : goal.returns
-returns c =
-    let taken = c.in_ok-next.ensures.steps in
-    let last = was_none c.next-2.new.self c.next-3.new.self c.next-3.result (sym c.is_some.ensures ∙ c.if-is_some.false) c.next-3.ensures.steps in
-    spells_two c.args.bytes.now c.in_ok-next.field-0.bytes.now (left c.next.new.self) (sym c.of-pieces.ensures.left ∙ taken.first)
-    c.in_ok-first.first c.in_ok-read.field-0 c.in-Some.second.bytes.now
-    (c.in-Some.ensures.steps.first ∙ ap (λ qs. c.in-Some.second.bytes.now ∷ qs) last) c.in_ok-first.ensures c.in_ok-read.ensures
+    let second = c.in_default.field-0-0.bytes.now in
+    no_third c.args.bytes.now c.in_ok-next.field-0.bytes.now (left c.next.new.self) (first (goal.at.returns-in_default c).In_ok-next)
+    second c.in_default.field-0-1.bytes.now (left c.next-3.new.self)
+    (c.in_default.ensures.steps.first ∙ ap (λ qs. second ∷ qs) c.in_default.ensures'.steps.first)
