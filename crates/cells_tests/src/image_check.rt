@@ -3,6 +3,7 @@
 use crate::sample_images::{FLASH, FUSE, unset_image};
 use images::fault::ImageFault;
 use images::format::Format;
+use std::process::Abort;
 use std::test::Fail;
 
 // The pages and the width of a good image, or why it is refused.
@@ -101,24 +102,22 @@ fn counts_at_their_bounds(rt: HostRuntime) -> Result<(), Fail> {
     Ok(())
 }
 
+// Each cut of a good image is short, and the whole is good.
+fn check_cuts(rt: &impl Abort, format: Format, image: &[u8]) {
+    for length in 0..image.len() {
+        assert_eq!(rt;
+            outcome(format, &image[..length]),
+            Err(ImageFault::Short),
+            "{format:?}, {length} bytes"
+        );
+    }
+    assert_eq!(rt; outcome(format, image), Ok((2, 12)));
+}
+
 #[test]
 fn only_cuts_of_a_good_image_are_short(rt: HostRuntime) {
-    for length in 0..FLASH.len() {
-        assert_eq!(rt;
-            outcome(Format::Flash, &FLASH[0..length]),
-            Err(ImageFault::Short),
-            "flash, {length} bytes"
-        );
-    }
-    assert_eq!(rt; outcome(Format::Flash, &FLASH), Ok((2, 12)));
-    for length in 0..FUSE.len() {
-        assert_eq!(rt;
-            outcome(Format::Fuse, &FUSE[0..length]),
-            Err(ImageFault::Short),
-            "fuse, {length} bytes"
-        );
-    }
-    assert_eq!(rt; outcome(Format::Fuse, &FUSE), Ok((2, 12)));
+    check_cuts(&rt, Format::Flash, &FLASH);
+    check_cuts(&rt, Format::Fuse, &FUSE);
 }
 
 // The last byte of each page has four cells and four unused bits.

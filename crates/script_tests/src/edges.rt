@@ -28,6 +28,6 @@ const LINES: &[Case] = &[
 
 #[test]
 fn table_of_edges(rt: HostRuntime) -> Result<(), Fail> {
-    check_heads(&rt, rt.alloc(), "heads", HEADS)?;
-    check_lines(&rt, rt.alloc(), "lines", LINES)
+    HEAD.check_all(&rt, rt.alloc(), "heads", HEADS)?;
+    LINE.check_all(&rt, rt.alloc(), "lines", LINES)
 }

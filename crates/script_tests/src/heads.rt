@@ -83,7 +83,7 @@ fn check_group_words(
 ) -> Result<(), Fail> {
     for (i, word) in words.iter().enumerate() {
         let line = joined(heap, b"H ", word, b" 6 1 12")?;
-        check_head(rt, heap, table, i, &line, expected)?;
+        HEAD.check(rt, heap, table, i, &line, expected)?;
     }
     Ok(())
 }
@@ -190,7 +190,7 @@ const PLACES: &[Case] = &[
 
 #[test]
 fn words_and_places_of_heads(rt: HostRuntime) -> Result<(), Fail> {
-    check_heads(&rt, rt.alloc(), "words", WORDS)?;
+    HEAD.check_all(&rt, rt.alloc(), "words", WORDS)?;
     check_scripts(&rt, rt.alloc(), "places", PLACES)
 }
 
@@ -242,5 +242,5 @@ const MAKINGS: &[Case] = &[
 
 #[test]
 fn refused_makings(rt: HostRuntime) -> Result<(), Fail> {
-    check_heads(&rt, rt.alloc(), "makings", MAKINGS)
+    HEAD.check_all(&rt, rt.alloc(), "makings", MAKINGS)
 }

@@ -59,11 +59,11 @@ fn longest_lines(rt: HostRuntime) -> Result<(), Fail> {
     let heap = rt.alloc();
     for (i, (start, fill, length, expected)) in HEADS.iter().enumerate() {
         let line = filled(heap, start, *fill, *length)?;
-        check_head(&rt, heap, "longest", i, &line, expected)?;
+        HEAD.check(&rt, heap, "longest", i, &line, expected)?;
     }
     for (i, (start, fill, length, expected)) in LINES.iter().enumerate() {
         let line = filled(heap, start, *fill, *length)?;
-        check_line(&rt, heap, "longest", i, &line, expected)?;
+        LINE.check(&rt, heap, "longest", i, &line, expected)?;
     }
     Ok(())
 }

@@ -103,10 +103,10 @@ const MALFORMED: &[Case] = &[
 fn commands_and_words(rt: HostRuntime) -> Result<(), Fail> {
     let heap = rt.alloc();
     for (i, line) in COMMANDS.iter().enumerate() {
-        check_line(&rt, heap, "commands", i, line, "X 50 T 2 1")?;
+        LINE.check(&rt, heap, "commands", i, line, "X 50 T 2 1")?;
     }
-    check_lines(&rt, heap, "counts", COUNTS)?;
-    check_lines(&rt, heap, "malformed", MALFORMED)
+    LINE.check_all(&rt, heap, "counts", COUNTS)?;
+    LINE.check_all(&rt, heap, "malformed", MALFORMED)
 }
 
 const CALLS: &[Case] = &[
@@ -136,5 +136,5 @@ const CALLS: &[Case] = &[
 
 #[test]
 fn calls_that_mark_nothing(rt: HostRuntime) -> Result<(), Fail> {
-    check_lines(&rt, rt.alloc(), "calls", CALLS)
+    LINE.check_all(&rt, rt.alloc(), "calls", CALLS)
 }

@@ -25,48 +25,69 @@ pub fn check_scripts(
     Ok(())
 }
 
-pub fn check_heads(rt: &impl Abort, heap: Global, table: &str, cases: &[Case]) -> Result<(), Fail> {
-    for (i, (line, expected)) in cases.iter().enumerate() {
-        check_head(rt, heap, table, i, line, expected)?;
+// Where the lines of a table stand, each in a script of its own: what goes before and after the line, and what is
+// printed before and after its answer.
+pub struct Place<'a> {
+    name: &'a str,
+    before: &'a [u8],
+    after: &'a [u8],
+    printed_before: &'a str,
+    printed_after: &'a str,
+}
+
+// A head, with a get after it. It prints this, and no more: a refused head ends the script.
+pub const HEAD: Place = Place {
+    name: "head",
+    before: b"",
+    after: b"\nG 0\n",
+    printed_before: "",
+    printed_after: "\n",
+};
+
+// A line between a head and an `L`. It prints this, and the script goes on with nothing counted.
+pub const LINE: Place = Place {
+    name: "line",
+    before: b"H Z7 6 1 12\n",
+    after: b"\nL\n",
+    printed_before: "M 2\n",
+    printed_after: "\nN 0 0 0 -\n",
+};
+
+impl Place<'_> {
+    pub fn check_all(
+        &self,
+        rt: &impl Abort,
+        heap: Global,
+        table: &str,
+        cases: &[Case],
+    ) -> Result<(), Fail> {
+        for (i, (line, expected)) in cases.iter().enumerate() {
+            self.check(rt, heap, table, i, line, expected)?;
+        }
+        Ok(())
     }
-    Ok(())
-}
 
-// A line with a get after it prints this, and no more. So a refused head ends the script.
-pub fn check_head(
-    rt: &impl Abort,
-    heap: Global,
-    table: &str,
-    i: usize,
-    line: &[u8],
-    expected: &str,
-) -> Result<(), Fail> {
-    let script = joined(heap, b"", line, b"\nG 0\n")?;
-    let text = format!(in heap; "{expected}\n")?;
-    assert_eq!(rt; run_script(heap, &script)?, text, "{table}: head {i}");
-    Ok(())
-}
-
-pub fn check_lines(rt: &impl Abort, heap: Global, table: &str, cases: &[Case]) -> Result<(), Fail> {
-    for (i, (line, expected)) in cases.iter().enumerate() {
-        check_line(rt, heap, table, i, line, expected)?;
+    pub fn check(
+        &self,
+        rt: &impl Abort,
+        heap: Global,
+        table: &str,
+        i: usize,
+        line: &[u8],
+        expected: &str,
+    ) -> Result<(), Fail> {
+        let Place {
+            name,
+            before,
+            after,
+            printed_before,
+            printed_after,
+        } = self;
+        let script = joined(heap, before, line, after)?;
+        let text = format!(in heap; "{printed_before}{expected}{printed_after}")?;
+        assert_eq!(rt; run_script(heap, &script)?, text, "{table}: {name} {i}");
+        Ok(())
     }
-    Ok(())
-}
-
-// A line between a head and an `L` prints this, and the script goes on with nothing counted.
-pub fn check_line(
-    rt: &impl Abort,
-    heap: Global,
-    table: &str,
-    i: usize,
-    line: &[u8],
-    expected: &str,
-) -> Result<(), Fail> {
-    let script = joined(heap, b"H Z7 6 1 12\n", line, b"\nL\n")?;
-    let text = format!(in heap; "M 2\n{expected}\nN 0 0 0 -\n")?;
-    assert_eq!(rt; run_script(heap, &script)?, text, "{table}: line {i}");
-    Ok(())
 }
 
 pub fn joined(
