@@ -1,6 +1,6 @@
 -- From the steps of a renewal to the rules that it obeys. Assumes nothing.
-use Rattle.std.proofs.Common.{◌≡◌, ℕ, ◌+◌, ◌*◌, ◌%◌, ◌<◌, ◌≤◌, Bool, true, false, cond, eqb, ◌⊎◌, List, [], get_or, is_some, Some, None, Ok, Err, Option, Result, sym, refl, ap, ◌∙◌, subst, ap₂, inl, inr, arith}
-use Rattle.std.proofs.lemmas.Bool.{cases_eq, eq-eqb, ne_eqb, both_ways}
+use Rattle.std.proofs.Common.{◌≡◌, ℕ, ◌+◌, ◌*◌, ◌%◌, ◌<◌, ◌≤◌, Bool, true, false, cond, eqb, ◌⊎◌, List, [], get_or, None, Ok, Err, Result, sym, refl, ap, ◌∙◌, subst, ap₂, inl, inr, arith}
+use Rattle.std.proofs.lemmas.Bool.{cases_eq, eq-eqb, ne_eqb}
 use Rattle.group.specs.Group.{step}
 use Rattle.cells.specs.Cells.{Cells, Cell}
 use Rattle.cells.specs.Rows.{Refused, Served}
@@ -11,7 +11,6 @@ use Rattle.cells.specs.Device.{erase_rows, Names, Erased, Erases}
 use Rattle.calls.specs.Faults.{located}
 use Rattle.coset.specs.Code.{Code, every, sum_of, Reachable, Unreachable, Plan}
 use Rattle.coset.specs.CellSets.{members_of}
-use Rattle.coset.specs.Plans.{Plans}
 use Rattle.coset.specs.declared.cellset.CellSet.{CellSet}
 use Rattle.calls.specs.declared.call.Call.TheVariants.{Renew}
 use Rattle.calls.specs.declared.ledger.Ledger.{Ledger}
@@ -23,15 +22,6 @@ use Rattle.store.specs.declared.place.Found.{Found}
 use Rattle.store.specs.Steps.{Known, cells_from, nth_place, target, PlansOfPage, PageWritten}
 use Rattle.store.proofs.Setting.{shaped_then}
 use Rattle.store.proofs.Serving.{unreachable_free, open_cells, open_free}
-
--- what the planner answered, by the test whether it found a plan
-pub found_plan : (c : Code) (f : Cellset) (d : ℕ) (o : Option CellSet) → is_some o ≡ true → Plans c f d o → Reachable c f d
-found_plan c f d None e plans = absurd (both_ways false refl e)
-found_plan c f d (Some s) e plans = (members_of s, plans.reaches)
-
-pub no_plan : (c : Code) (f : Cellset) (d : ℕ) (o : Option CellSet) → is_some o ≡ false → Plans c f d o → Unreachable c f d
-no_plan c f d None e plans = plans
-no_plan c f d (Some s) e plans = absurd (both_ways true e refl)
 
 -- what an erase did, by its answer with the record beside a refusal
 pub erase_served :
@@ -67,38 +57,11 @@ module _ (c : Code) (m : Cells) (k : ℕ) (found : Found) (known : Known c m k f
   abbrev opened : Cellset
   opened = open_cells c m k found known
 
-  -- the put would be accepted
-  pub renew_fits : Reachable c opened (step c.group found.value x) → Refused (rows c m (Renew k x)) 43
-  renew_fits r =
-      let there_is = known.place.0 in
-      inr (
-        λ h. omega arith,
-        inr (
-          λ h. omega arith,
-          inl (
-            (
-              r.0,
-              record {
-                within = λ i h e. sym (open_free c m k found known i h) ∙ r.1.within i h e;
-                sums = r.1.sums ∙ ap (λ v. step c.group v x) known.value;
-              },
-            ),
-            refl,
-          ),
-        ),
-      )
-
   module _ (none : Unreachable c opened (step c.group found.value x)) where
     no_put : Reachable c (free c m k) (step c.group (value c m k) x) → ⊥
     no_put r =
         unreachable_free c opened (free c m k) (step c.group (value c m k) x) (open_free c m k found known)
         (subst (λ v. Unreachable c opened (step c.group v x)) known.value none) r.0 r.1
-
-    -- the value is out of reach from empty
-    pub renew_unreached : Unreachable c every x → Refused (rows c m (Renew k x)) 44
-    renew_unreached far =
-        let there_is = known.place.0 in
-        inr (λ h. omega arith, inr (λ h. omega arith, inr (no_put, inl (far, refl))))
 
     module _ (plans : List CellSet) (planned : PlansOfPage c m (page_of c m k) (k % per_page c m) x (per_page c m) plans) where
       abbrev d₀ : CellSet

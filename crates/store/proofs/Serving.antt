@@ -1,7 +1,6 @@
 -- From the steps of a call to the rules that it obeys. Assumes nothing.
-use Rattle.std.proofs.Common.{◌≡◌, ℕ, ◌+◌, ◌-◌, ◌*◌, ◌%◌, ◌<◌, Bool, true, false, cond, not, ◌||◌, eqb, Ok, sym, refl, ap, ◌∙◌, subst, ap₂, inl, inr, arith}
+use Rattle.std.proofs.Common.{◌≡◌, ℕ, ◌+◌, ◌-◌, ◌*◌, ◌%◌, ◌<◌, Bool, true, false, cond, not, ◌||◌, eqb, Ok, sym, refl, ap, ◌∙◌, subst, ap₂, arith}
 use Rattle.group.specs.Group.{step}
-use Rattle.cells.specs.Rows.{Refused}
 use Rattle.cells.specs.Cells.{Cells}
 use Rattle.cells.specs.Sets.{Cellset}
 use Rattle.coset.specs.CellSets.{members_of}
@@ -12,7 +11,7 @@ use Rattle.calls.specs.Records.{per_page, page_of, first_of, held, free, value}
 use Rattle.calls.specs.declared.call.Call.TheVariants.{Put}
 use Rattle.calls.specs.declared.ledger.Ledger.{Ledger}
 use Rattle.calls.specs.Ledger.{raised}
-use Rattle.calls.specs.Calls.{state_of, Sets, rows, Obeys}
+use Rattle.calls.specs.Calls.{state_of, Sets, Obeys}
 use Rattle.store.specs.Steps.{Known, Places, Inside, cells_from, SetsCells}
 use Rattle.coset.proofs.Sums.{Agree, sum_agree}
 use Rattle.calls.proofs.Geometry.{There, there, place_within, page_same, place_same}
@@ -80,18 +79,6 @@ module _ (c : Code) (m : Cells) (k : ℕ) (found : Found) (known : Known c m k f
   open_free i h = ap not (known.held i h)
 
   module _ (x : ℕ) (element : x < c.group.order) where
-    -- no set of the cells that are not set
-    pub put_full : Unreachable c open_cells (step c.group found.value x) → Refused (rows c m (Put k x)) 42
-    put_full none =
-        let there_is = known.place.0 in
-        inr (
-          λ h. omega arith,
-          inr (
-            λ h. omega arith,
-            inl (unreachable_free c open_cells (free c m k) _ open_free (subst (λ v. Unreachable c open_cells (step c.group v x)) known.value none), refl),
-          ),
-        )
-
     -- a plan that was carried out
     pub put_served :
         (s : Cellset) (m' : Cells) (l l' : Ledger) (marked : ℕ) → Plan c open_cells (step c.group found.value x) s → SetsCells c.cells found.place s m m' →

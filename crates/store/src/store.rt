@@ -112,9 +112,9 @@ impl<G: Group, A: Erasable> Store<G, A> {
         if value >= self.group.order() {
             return Err(StoreFault::NoValue { record });
         }
-        if self.plan_to(&found, value).is_some() {
+        let None = self.plan_to(&found, value) else {
             return Err(StoreFault::Fits { record });
-        }
+        };
         let Some(plans) = self.plan_page(record, value) else {
             return Err(StoreFault::Unreached { record });
         };

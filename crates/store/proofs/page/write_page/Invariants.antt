@@ -1,4 +1,3 @@
-use Rattle.std.proofs.Common.{◌≡◌}
 use Rattle.cells.specs.Device.{Kept}
 use Rattle.store.specs.Steps.{PageWritten}
 use Rattle.store.proofs.page.write_page.Given as goal
