@@ -3,18 +3,12 @@ use Rattle.std.proofs.lemmas.List.{get_or_default}
 use Rattle.cells.proofs.Sizes.{size_le}
 use Rattle.coset.specs.CellSets.{members_of}
 use Rattle.coset.specs.declared.cellset.CellSet.{CellSet}
-use Rattle.store.proofs.Paging.{sizes_few, rows_within, next_within, page_none, page_step}
+use Rattle.store.proofs.Paging.{sizes_few, next_within, page_none, page_step}
 use Rattle.store.proofs.page.write_page.Goals as goal
 
 pub loop-r-init : goal.loop-r-init
 loop-r-init g c =
     ((refl, (λ whole. whole)), page_none c.args.n c.args.page c.args.plans.now.plans (g.A.CellArray.cells c.args.array.now) c.requires.unset)
-
-pub write-marked-requires : goal.write-marked-requires
-write-marked-requires g c =
-    let shape = c.loop-r.invariant.1.shape in
-    let room = rows_within c.args.n c.loop-r.r c.args.plans.now.records (g.A.CellArray.cells c.args.array.now).width c.loop-r-test.true c.requires.fits in
-    record { page = rw shape.pages c.requires.page; cells = rw shape.width room; few = c.requires.few }
 
 pub overflow_add-marked : goal.overflow_add-marked
 overflow_add-marked g c =

@@ -1,13 +1,6 @@
 use Rattle.std.proofs.Common.{◌≡◌, ◌+◌, ◌-◌, arith}
-use Rattle.coset.proofs.Rows.{filled_starts, filled_more}
+use Rattle.coset.proofs.Rows.{filled_more}
 use Rattle.coset.proofs.planner.Search.table.Goals as goal
-
-pub loop-cell-init : goal.loop-cell-init
-loop-cell-init g c =
-    let laws = g.met.G.Group.lawful c.args.self.now.group.now in
-    let search = c.args.self.now in
-    filled_starts _ laws search.usable search.cells _ c.unreached-table.result _ search.few
-    c.unreached-table.ensures c.put.ensures
 
 pub loop-cell-preserved : goal.loop-cell-preserved
 loop-cell-preserved g c =
