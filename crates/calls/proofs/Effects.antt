@@ -17,10 +17,6 @@ Other c m k p r = (p ≡ page_of c m k) × (r ≡ k % per_page c m) → ⊥
 
 -- A put sets the cells of s in record k.
 module _ (c : Code) (k : ℕ) (s : Cellset) (m m' : Cells) (at : There c m k) (sets : Sets c k s m m') where
-  -- record k has its cells and those of s
-  pub put_here : Agree (held c m' k) (either (held c m k) s) c.cells
-  put_here i h = sets.here i h
-
   -- every other record is as it was
   pub put_others : (p r : ℕ) → p < m.pages → r < per_page c m → Other c m k p r → Agree (at_place c m' p r) (at_place c m p r) c.cells
   put_others p r hp hr other i h =

@@ -18,10 +18,6 @@ every_push : (P : Event → Type 0) (h : List Event) (e : Event) → Every P h �
 every_push P [] e all here = (here, tt)
 every_push P (x ∷ h) e all here = (all.0, every_push P h e all.1 here)
 
--- no call
-pub runs_none : (c : Code) (s : State) → Runs c s [] [] s
-runs_none c s = record { history = []; its_calls = refl; its_answers = refl; linked = refl; obeys = tt }
-
 -- one call more
 pub runs_more :
     (c : Code) (first : State) (calls : List Call) (answers : List Answer) (before after : State) (call : Call) (answer : Answer) →

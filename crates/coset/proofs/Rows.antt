@@ -1,6 +1,6 @@
 -- Filling the planner's table row by row. Assumes nothing.
-use Rattle.std.proofs.Common.{◌≡◌, ℕ, ◌+◌, ◌<◌, ◌≤◌, min, Bool, true, false, cond, eqb, ◌⊎◌, sym, ap, ◌∙◌, ap₂, inl, inr, arith, below_more}
-use Rattle.std.proofs.lemmas.Bool.{cases_eq, eq-eqb, ne_eqb}
+use Rattle.std.proofs.Common.{◌≡◌, ℕ, ◌+◌, ◌<◌, ◌≤◌, min, Bool, true, false, cond, ◌⊎◌, sym, ap, ◌∙◌, ap₂, inl, inr, arith, below_more}
+use Rattle.std.proofs.lemmas.Bool.{cases_eq}
 use Rattle.group.specs.Group.{Group, Lawful, Usable, In, step}
 use Rattle.group.specs.NumberedLemmas.{sum_in}
 use Rattle.cells.specs.Sets.{Cellset}
@@ -34,18 +34,6 @@ fills_more g free i s best before table after small fills is_best puts = record 
 module _ (g : Group) (laws : Lawful g) (usable : Usable g) (n : ℕ) (free : Cellset) where
   small : (s : ℕ) → In g s → s < 64
   small s h = let most = laws.most in omega arith
-
-  -- all entries are 255 but one, past the last cell
-  pub filled_starts :
-      (blank table : Table) → n ≤ 63 → ((i s : ℕ) → i < 64 → s < 64 → fewest_at blank i s ≡ 255) → Puts n 0 0 blank table → Filled (code g n) free table n
-  filled_starts blank table few unreached puts = record {
-    last = λ s h. last s h (cases_eq s 0);
-    turns = λ i s from below. absurd (omega arith);
-  }
-    where
-      last : (s : ℕ) → In g s → (s ≡ 0) ⊎ (s ≡ 0 → ⊥) → fewest_at table n s ≡ cond (eqb s 0) 0 255
-      last s h (inl e) = rw (eq-eqb s 0 e) (ap (fewest_at table n) e ∙ puts.here)
-      last s h (inr ne) = rw (ne_eqb s 0 ne) (puts.others n s (small s h) (λ _. ne) ∙ unreached n s (omega arith) (small s h))
 
   pub filled_more :
       (before after : Table) (i : ℕ) → i < n → Filled (code g n) free before (i + 1) → Fills g free i g.order before after → Filled (code g n) free after i

@@ -1,5 +1,5 @@
 -- Sums and sizes of sets of labelled cells. Assumes nothing.
-use Rattle.std.proofs.Common.{◌≡◌, ℕ, zero, suc, ◌+◌, ◌-◌, ◌%◌, ◌<◌, ◌≤◌, Bool, true, false, cond, ◌||◌, eqb, ◌⊎◌, sym, refl, ap, ◌∙◌, ap₂, inl, inr, add-zero, zero-add, add-suc, [], ◌∷◌, ◌++◌, mod-eq_of_lt, add-one, arith}
+use Rattle.std.proofs.Common.{◌≡◌, ℕ, zero, suc, ◌+◌, ◌-◌, ◌%◌, ◌<◌, ◌≤◌, Bool, true, false, cond, ◌||◌, eqb, ◌⊎◌, sym, refl, ap, ◌∙◌, ap₂, inl, inr, add-zero, zero-add, add-suc, [], ◌∷◌, ◌++◌, mod-eq_of_lt, arith}
 use Rattle.std.proofs.lemmas.Nat.{mod_below}
 use Rattle.std.proofs.lemmas.Bool.{cases_eq, eq-eqb, ne_eqb}
 use Rattle.std.proofs.lemmas.List.Elements.{filter-append}
@@ -81,15 +81,6 @@ unfolding sum_below
 sum_agree c s t zero same = refl
 sum_agree c s t (suc n) same =
     ap₂ (λ b k. cond b (c.group.sum k (c.label n)) k) (same n (omega arith)) (sum_agree c s t n (λ i h. same i (omega arith)))
-
--- one cell more
-pub sum_with : (c : Code) (s : Cellset) (n : ℕ) → s n ≡ true → sum_below c s (n + 1) ≡ c.group.sum (sum_below c s n) (c.label n)
-unfolding sum_below
-sum_with c s n e = rw (add-one, e) refl
-
-pub sum_without : (c : Code) (s : Cellset) (n : ℕ) → s n ≡ false → sum_below c s (n + 1) ≡ sum_below c s n
-unfolding sum_below
-sum_without c s n e = rw (add-one, e) refl
 
 -- one number more at the end of a range
 range_push : (a n : ℕ) → range_with_len a (suc n) ≡ range_with_len a n ++ ((a + n) ∷ [])

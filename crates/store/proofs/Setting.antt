@@ -85,6 +85,3 @@ sets_with n at s k m m' m'' inside lt member sets marked =
         go : ((i < k) ⊎ (k ≤ i)) → ltb i k ≡ ltb i (k + 1)
         go (inl below) = lt-ltb i k below ∙ sym (lt-ltb i (k + 1) (omega arith))
         go (inr above) = le-ltb i k above ∙ sym (le-ltb i (k + 1) (omega arith))
-
-pub sets_all : (n : ℕ) (at : Place) (s : Cellset) (m m' : Cells) → SetsCells n at (first_of_set s n) m m' → SetsCells n at s m m'
-sets_all n at s m m' sets = sets_agree n at (first_of_set s n) s m m' (λ i h. ap (λ b. b && s i) (lt-ltb i n h)) sets
