@@ -7,7 +7,8 @@ ghost use Rattle.cells.specs.Device.{FindsPage, FindsCell, Kept, Looks, Marks, W
 
 use crate::fault::DeviceFault;
 
-// Pages of cells that can only be set.
+// Pages of cells that can only be set. A call names a page and a cell by two numbers: a struct of the two would be made
+// for each call and taken apart in it.
 pub trait CellArray {
     // what the array means
     ghost cells: { Self → Cells };

@@ -31,6 +31,7 @@ impl Factor {
     }
 }
 
+// The kinds are closed by the form of a group word, so a match picks the group, and no `dyn`.
 impl Group for Factor {
     ghost meaning = { factor_group };
 

@@ -15,6 +15,7 @@ use scan::pieces::Pieces;
 // the column of the first word: a line begins with its command and a space
 const FIRST_COLUMN: usize = 3;
 
+// Its column counts from 1 in its line, where the place of a piece counts from 0 in what was cut.
 #[derive(Clone, Copy)]
 pub struct Word<'a> {
     pub bytes: &'a [u8],
@@ -74,8 +75,8 @@ impl<'a> Words<'a> {
         }
     }
 
-    // A borrowed word in an array of N has no proof by the borrow checker, so each count has a function of its own.
-    // That there is no word.
+    // That there is no word. Each count has a function of its own: the borrow checker does not cover an array of borrowed
+    // words in a result.
     pub(crate) fn none(mut self) -> Result<(), Refusal>
         ensures { Reading (count_spot (words_left self.entry) 0 self.entry.past ∷ []) (λ _. words_left self.entry ≡ []) result }
     {

@@ -10,7 +10,7 @@ use crate::cellset::{CellSet, MAX_CELLS};
 use crate::labels::label;
 use group::interface::Group;
 
-// the entry of an element that no cells sum to
+// The entry of an element that no cells sum to. The rules have a table of bytes, so it is no `Option`.
 const UNREACHED: u8 = 255;
 
 // A row for each of at most 63 cells and one past the last, with an entry for each of at most 64 elements.
@@ -119,6 +119,7 @@ impl Table {
         }
     }
 
+    // Elements are 32-bit numbers, which have no `From` into an index; that the cast loses nothing is proved.
     fn get(&self, cell: usize, s: u32) -> u8
         requires cell_bound { cell < 64 }
         requires s_bound { s < 64 }

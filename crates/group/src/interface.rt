@@ -6,7 +6,7 @@ ghost use Rattle.group.specs.Group.{Group as GroupMeaning, Lawful, has, is_usabl
 // the largest order of a usable group
 pub const MAX_ORDER: u32 = 64;
 
-// the order of an unusable group
+// The order of an unusable group, which is a number by the rules, and so no `Option`.
 pub const UNUSABLE: u32 = 65;
 
 pub trait Group {

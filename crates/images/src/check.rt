@@ -70,7 +70,8 @@ impl Format {
         Ok(usize::from(width))
     }
 
-    // The pages, and what follows them.
+    // The pages, and what follows them. The image goes beside its layout to three functions; a struct of both would hold
+    // a borrow for these alone.
     fn check_body(self, image: &[u8], layout: Layout) -> Result<(), ImageFault>
         ensures { Passes (body_rows self layout.pages layout.width image.now) (λ _. Unit {0}) result }
     {

@@ -14,6 +14,7 @@ use std::alloc::{AllocError, Global};
 pub fn fresh_flash(heap: Global, pages: usize, width: usize) -> Result<Vec<u8>, ImageError>
     ensures { Makes vec_items pages width result }
 {
+    // The check of an image reads these counts at two places, with other rows between, so each stands here once more.
     if pages == 0 || pages > 64 {
         return Err(ImageError::Image(ImageFault::Pages));
     }

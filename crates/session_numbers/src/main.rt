@@ -50,6 +50,7 @@ fn show_wear<A: Erasable>(rt: &HostRuntime, array: &A) -> io::Result<()> {
     Ok(())
 }
 
+// The words are this program's own, and each is printed once, so that no `Display` would be shorter.
 fn show_call(rt: &HostRuntime, call: Call, answer: Result<u32, StoreFault>) -> io::Result<()> {
     let what = match call {
         Call::Get { record } => {

@@ -29,7 +29,7 @@ impl MakingFault {
     }
 }
 
-// Whether a store of these has records, or why it has none.
+// Whether a store of these has records, or why it has none. They are no store yet, so no struct holds the three.
 pub fn check_making<G: Group, A: CellArray>(
     group: &G,
     array: &A,

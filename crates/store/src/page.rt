@@ -21,6 +21,7 @@ impl<G: Group, A: CellArray> Store<G, A> {
         requires { «record» < records (code (G.Group.meaning self.now.group) self.now.n) (A.CellArray.cells self.now.array) }
         ensures { PlansPage (code (G.Group.meaning self.now.group) self.now.n) (A.CellArray.cells self.now.array) (page_of (code (G.Group.meaning self.now.group) self.now.n) (A.CellArray.cells self.now.array) «record») («record» % per_page (code (G.Group.meaning self.now.group) self.now.n) (A.CellArray.cells self.now.array)) value result }
     {
+        // The loop is over numbers, since each gives a plan and also the first cell of its record.
         let records = self.per_page();
         let page = record / records;
         let empty = CellSet::empty();

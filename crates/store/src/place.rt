@@ -22,7 +22,7 @@ pub(crate) struct Found {
     pub(crate) value: u32,
 }
 
-// A plan for each record of a page.
+// A plan for each record of a page. Memory of a fixed size, so that a renewal never fails for want of it.
 #[derive(Clone, Copy)]
 pub(crate) struct PagePlans {
     pub(crate) plans: [CellSet; MAX_PER_PAGE],

@@ -27,7 +27,7 @@ pub fn check_calls<G: Group + Drop, A: Erasable>(
     Ok(check_run(rt, run_calls(heap, group, array, n, &calls)?, cases))
 }
 
-// The same over any cell array, with gets and puts alone.
+// The same over any cell array, with gets and puts alone. There are two, as there are two functions to try.
 pub fn check_accesses<G: Group + Drop, A: CellArray>(
     rt: &impl Abort,
     heap: Global,
