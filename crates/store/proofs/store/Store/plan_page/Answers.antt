@@ -4,7 +4,7 @@ use Rattle.std.proofs.lemmas.List.{length-set}
 use Rattle.coset.specs.Code.{code, every, Plan}
 use Rattle.coset.specs.CellSets.{members_of}
 use Rattle.calls.proofs.Geometry.{there}
-use Rattle.store.specs.Steps.{target, PlansOfPage}
+use Rattle.store.specs.Steps.{target}
 use Rattle.store.proofs.Paging.{page_more, page_fits, rows_within}
 use Rattle.store.proofs.Renewing.{records_to_page}
 use Rattle.store.proofs.Serving.{plan_free}
@@ -46,15 +46,4 @@ loop-r-preserved g c =
           (subst (λ d. Plan co every d (members_of plan)) is
           (plan_free co (members_of c.complement-all.result) every c.if-r-record.target (members_of plan)
           (λ i h. c.complement-all.ensures i (omega arith) ∙ ap not (c.empty-empty.ensures i)) c.in_ok-plans.ensures)),
-    )
-
-pub returns : goal.returns
-returns g c =
-    let co = code (g.G.Group.meaning c.args.self.now.group) c.args.self.now.n in
-    let m = g.A.CellArray.cells c.args.self.now.array in
-    let shared = c.per_page-records.ensures ∙ records_to_page co m c.args.«record» c.requires in
-    let end = c.loop-r-test.false in (
-      shared,
-      subst (λ b. PlansOfPage co m (c.args.«record» / b) (c.args.«record» % b) c.args.value b c.loop-r.plans) shared
-          (λ r d h. c.loop-r.invariant.1 r d (omega arith)),
     )
