@@ -7,11 +7,11 @@ use Rattle.commands.specs.declared.word.Word.{Word}
 use Rattle.commands.specs.declared.word.Number.{Number}
 use Rattle.commands.specs.declared.head.Head.{Head}
 use Rattle.commands.specs.declared.group_word.GroupWord.{GroupWord}
-use Rattle.commands.specs.Spots.{Passed}
+use Rattle.commands.specs.Spots.{Stopped, Passed}
 use Rattle.commands.specs.Groups.{SpellsGroup, group_spelt}
 use Rattle.commands.specs.Words.{placed, line_words, word_of}
 use Rattle.commands.specs.Orders.{command_words, head_words, form_spots, number_spot, head_word_spots, line_spots, head_spots, Has, Heads, Numbers, ColumnsTwo, Headings}
-use Rattle.commands.proofs.Tables.{passed_both}
+use Rattle.commands.proofs.Tables.{passed_both, stopped_then}
 
 -- the pieces of placed pieces
 unplaced : (column : ℕ) (ps : List (List ℕ)) → map (λ (w : List ℕ × ℕ). w.0) (placed column ps) ≡ ps
@@ -111,6 +111,11 @@ has_words (c ∷ rest) b ws has = has.1
 
 -- the table of a line whose form passes goes on with its words
 module _ (l : List ℕ) (b : ℕ) (ws : List (List ℕ × ℕ)) (has : Has l b ws) where
+  pub line_stopped : (k j : ℕ) → Passed (form_spots command_words l) → Stopped (map number_spot ws) k j → Stopped (line_spots l) k j
+  line_stopped k j passed stopped =
+      stopped_then (form_spots command_words l) (map number_spot (line_words l)) k j passed
+      (subst (λ vs. Stopped (map number_spot vs) k j) (sym (has_words l b ws has)) stopped)
+
   pub line_passed : Passed (form_spots command_words l) → Passed (map number_spot ws) → Passed (line_spots l)
   line_passed passed words =
       passed_both (form_spots command_words l) (map number_spot (line_words l)) passed (subst (λ vs. Passed (map number_spot vs)) (sym (has_words l b ws has)) words)

@@ -31,11 +31,6 @@ module _ (w : List ℕ) (some : 0 < length w) where
   no_digits none (Integers g) s = none g.modulus (s.0, rest_is 90 (decimal g.modulus) s.1)
   no_digits none (Vectors g) s = none g.bits (s.0, rest_is 88 (decimal g.bits) s.1)
 
-  -- another letter
-  pub no_letter : (get_or w 0 0 ≡ 90 → ⊥) → (get_or w 0 0 ≡ 88 → ⊥) → (f : Factor) → SpellsFactor w f → ⊥
-  no_letter z x (Integers g) s = z (ap (λ l. get_or l 0 0) s.1)
-  no_letter z x (Vectors g) s = x (ap (λ l. get_or l 0 0) s.1)
-
 -- the pieces of a group word are the spellings of its factors
 abbrev factor_pieces : GroupWord → List (List ℕ)
 factor_pieces (One f) = factor_spelt f ∷ []

@@ -23,11 +23,6 @@ every_both : (P : Event → Type 0) (h i : List Event) → Every P h → Every P
 every_both P [] i first second = second
 every_both P (e ∷ h) i first second = (first.0, every_both P h i first.1 second)
 
-after_linked : (h : List Event) (s t : State) → Linked s h t → state_after s h ≡ t
-unfolding state_after
-after_linked [] s t linked = sym linked
-after_linked (e ∷ h) s t linked = after_linked h e.after t linked.1
-
 -- one line more
 tells_push :
     (ls : List (List ℕ × ℕ)) (s t : State) (h i : List Event) (out : List Reply) (l : List ℕ × ℕ) (r : Reply) → Tells ls s h out → Linked s h t →
