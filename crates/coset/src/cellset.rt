@@ -6,7 +6,7 @@ ghost use Rattle.coset.specs.CellSets.{members_of};
 // the most cells that a record has
 pub const MAX_CELLS: usize = 63;
 
-#[derive(Clone, Copy)]
+#[derive(Clone, Copy, PartialEq, Debug)]
 pub struct CellSet {
     members: [bool; MAX_CELLS],
 }

@@ -1,11 +1,9 @@
 // Examples of the planner: small codes with some of their cells set,
 // and parameters at which nothing is reached.
-use crate::cellset::{CellSet, MAX_CELLS};
+use crate::cellset::CellSet;
 use crate::planner::plan;
 use group::integers::Integers;
 use group::vectors::Vectors;
-use std::process::Abort;
-use std::test::Fail;
 
 fn set_of(cells: &[usize]) -> CellSet {
     let mut set = CellSet::empty();
@@ -15,33 +13,33 @@ fn set_of(cells: &[usize]) -> CellSet {
     set
 }
 
-// The plan has these cells and no others.
-fn check_plan(rt: &impl Abort, found: Option<CellSet>, cells: &[usize]) -> Result<(), Fail> {
-    let Some(found) = found else {
-        return Err(Fail::new("unreachable"));
-    };
-    let expected = set_of(cells);
-    for cell in 0..MAX_CELLS {
-        assert_eq!(rt; found.contains(cell), expected.contains(cell));
+// The plan with these cells and no others.
+fn plan_of(cells: &[usize]) -> Option<CellSet> {
+    Some(set_of(cells))
+}
+
+#[test]
+fn fewest_free_cells(rt: HostRuntime) {
+    let seven = Integers::new(7);
+    let cases: [(&[usize], u32, &[usize]); 3] = [
+        (&[0, 1, 2, 3, 4, 5], 3, &[2]),
+        (&[0, 1, 3, 4, 5], 3, &[0, 1]),
+        (&[0, 1, 2], 6, &[0, 1, 2]),
+    ];
+    for (free, step, cells) in cases {
+        assert_eq!(rt; plan(&seven, 6, &set_of(free), step), plan_of(cells));
     }
-    Ok(())
+    assert_eq!(rt;
+        plan(&Vectors::new(2), 3, &set_of(&[1, 2]), 1),
+        plan_of(&[1, 2])
+    );
 }
 
 #[test]
-fn fewest_free_cells(rt: HostRuntime) -> Result<(), Fail> {
+fn nothing_free(rt: HostRuntime) {
     let seven = Integers::new(7);
-    check_plan(&rt, plan(&seven, 6, &set_of(&[0, 1, 2, 3, 4, 5]), 3), &[2])?;
-    check_plan(&rt, plan(&seven, 6, &set_of(&[0, 1, 3, 4, 5]), 3), &[0, 1])?;
-    check_plan(&rt, plan(&seven, 6, &set_of(&[0, 1, 2]), 6), &[0, 1, 2])?;
-    check_plan(&rt, plan(&Vectors::new(2), 3, &set_of(&[1, 2]), 1), &[1, 2])
-}
-
-#[test]
-fn nothing_free(rt: HostRuntime) -> Result<(), Fail> {
-    let seven = Integers::new(7);
-    check_plan(&rt, plan(&seven, 6, &CellSet::empty(), 0), &[])?;
+    assert_eq!(rt; plan(&seven, 6, &CellSet::empty(), 0), plan_of(&[]));
     assert!(rt; plan(&seven, 6, &CellSet::empty(), 1).is_none());
-    Ok(())
 }
 
 #[test]

@@ -8,9 +8,7 @@ use std::test::Fail;
 fn wearing_script(heap: Global) -> Result<Vec<u8>, AllocError> {
     let mut script = Vec::new(heap);
     script.extend_from_slice(b"H Z3 2 1 2\nP 0 1\n")?;
-    for _ in 0..5000u32 {
-        script.extend_from_slice(b"S 0 2\nS 0 1\n")?;
-    }
+    script.extend_from_slice(&b"S 0 2\nS 0 1\n".repeat(heap, 5000)?)?;
     script.extend_from_slice(b"S 0 2\nG 0\nL\n")?;
     Ok(script)
 }
@@ -18,9 +16,7 @@ fn wearing_script(heap: Global) -> Result<Vec<u8>, AllocError> {
 // Its text: each renewal marks one cell, and the last one meets the worn page.
 fn wearing_text(heap: Global) -> Result<String, AllocError> {
     let mut text = String::from_str(heap, "M 1\nW 1\n")?;
-    for _ in 0..10000u32 {
-        text.push_str("E 1\n")?;
-    }
+    text.push_str(&"E 1\n".repeat(heap, 10000)?)?;
     text.push_str("X 22 D 10003 1\nV 1\nN 1 10000 10001 0\n")?;
     Ok(text)
 }
