@@ -1,26 +1,11 @@
 -- The form of a line: its length, its command, the space after that, and the count of its words. Assumes nothing.
-use Rattle.std.proofs.Common.{◌≡◌, ℕ, ◌+◌, ◌<◌, ◌≤◌, List, [], ◌∷◌, length, get_or, Some, None, Ok, Err, Option, Result, sym, refl, ap, ◌∙◌, subst, subst₂, inl, inr, arith}
+use Rattle.std.proofs.Common.{◌≡◌, ℕ, ◌+◌, List, [], ◌∷◌, length, Some, None, Ok, Err, Option, Result, sym, refl, ap, ◌∙◌, subst, subst₂, inl, inr, arith}
 use Rattle.std.specs.Result.{MatchResult, IsOkAnd}
 use Rattle.commands.specs.declared.opening.Opening.{Opening}
 use Rattle.commands.specs.Spots.{Stopped, Passed}
-use Rattle.commands.specs.Words.{Opens, line_words, words_left}
+use Rattle.commands.specs.Words.{line_words, words_left}
 use Rattle.commands.specs.declared.fault.Refusal.{Refusal}
-use Rattle.commands.specs.Orders.{Foreign, Miscounted, count_spot, form_spots, Has, Begins, Reading}
-use Rattle.commands.proofs.Beginnings.{rest_of, first_rest}
-
-pub line_begins :
-    (l : List ℕ) (o : Opening) → 0 < length l → length l ≤ 80 → o.letter ≡ get_or l 0 0 → Opens (rest_of l) (Some o.words) → Begins l o
-line_begins l o some short letter opens =
-    record {
-      past = opens.2 ∙ omega (arith, ap length (first_rest l some));
-      length = short;
-      has = subst (λ xs. Has xs o.letter (words_left o.words)) (sym (first_rest l some)) (sym letter, sym opens.1);
-      familiar = λ takes known foreign. go takes known (subst (Foreign takes) (first_rest l some) foreign);
-    }
-  where
-    go : (takes : ℕ → Option ℕ) → (takes o.letter ≡ None → ⊥) → Foreign takes (get_or l 0 0 ∷ rest_of l) → ⊥
-    go takes known (inl other) = known (ap takes letter ∙ other)
-    go takes known (inr unspaced) = opens.0 unspaced
+use Rattle.commands.specs.Orders.{Miscounted, count_spot, form_spots, Has, Begins, Reading}
 
 module _ (takes : ℕ → Option ℕ) (l : List ℕ) (o : Opening) (begins : Begins l o) where
   module _ (k : ℕ) (knows : takes o.letter ≡ Some k) where

@@ -1,35 +1,13 @@
 -- Factors and group words: what is spelt, and that nothing else is. Assumes nothing.
-use Rattle.std.proofs.Common.{◌≡◌, ℕ, ◌<◌, List, [], ◌∷◌, ◌++◌, length, get_or, decimal, sym, ap, ◌∙◌, arith}
-use Rattle.group.specs.declared.integers.Integers.{Integers as Modulo}
-use Rattle.group.specs.declared.vectors.Vectors.{Vectors as Bits}
+use Rattle.std.proofs.Common.{◌≡◌, ℕ, List, [], ◌∷◌, ◌++◌, decimal, sym, ap, ◌∙◌, arith}
 use Rattle.commands.specs.declared.factor.Factor.{Factor}
 use Rattle.commands.specs.declared.factor.Factor.TheVariants.{Integers, Vectors}
 use Rattle.commands.specs.declared.group_word.GroupWord.{GroupWord}
 use Rattle.commands.specs.declared.group_word.GroupWord.TheVariants.{One, Two}
-use Rattle.scan.specs.Numbers.{Spells}
 use Rattle.scan.specs.Pieces.{cut, joined, left, Lacks}
 use Rattle.scan.proofs.Cutting.{lacks_more, cut_alone, cut_first, joined_cut}
 use Rattle.scan.proofs.Spelling.{decimal_lacks}
 use Rattle.commands.specs.Groups.{factor_spelt, group_spelt, SmallFactor, SmallGroup, SpellsFactor, SpellsGroup}
-use Rattle.commands.proofs.Beginnings.{rest_of, first_rest}
-
-module _ (w : List ℕ) (some : 0 < length w) where
-  -- a letter and a number
-  pub spells_integers : (g : Modulo) → get_or w 0 0 ≡ 90 → Spells (rest_of w) g.modulus → SpellsFactor w (Integers g)
-  spells_integers g letter digits =
-      (digits.0, first_rest w some ∙ ap (λ b. b ∷ rest_of w) letter ∙ ap (λ ds. 90 ∷ ds) digits.1)
-
-  pub spells_vectors : (g : Bits) → get_or w 0 0 ≡ 88 → Spells (rest_of w) g.bits → SpellsFactor w (Vectors g)
-  spells_vectors g letter digits =
-      (digits.0, first_rest w some ∙ ap (λ b. b ∷ rest_of w) letter ∙ ap (λ ds. 88 ∷ ds) digits.1)
-
-  rest_is : (b : ℕ) (ds : List ℕ) → w ≡ b ∷ ds → rest_of w ≡ ds
-  rest_is b ds e = let z = first_rest w some in cc
-
-  -- no number after the letter
-  pub no_digits : ((n : ℕ) → Spells (rest_of w) n → ⊥) → (f : Factor) → SpellsFactor w f → ⊥
-  no_digits none (Integers g) s = none g.modulus (s.0, rest_is 90 (decimal g.modulus) s.1)
-  no_digits none (Vectors g) s = none g.bits (s.0, rest_is 88 (decimal g.bits) s.1)
 
 -- the pieces of a group word are the spellings of its factors
 abbrev factor_pieces : GroupWord → List (List ℕ)

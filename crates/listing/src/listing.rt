@@ -37,11 +37,9 @@ fn report<A: Erasable>(array: &A, page: usize) -> PageReport
     requires { page < (A.CellArray.cells array.now).pages }
     ensures { result ≡ page_report (A.CellArray.cells array.now) page }
 {
+    let (wear, _) = array.wear(page).unwrap();
     let set = count_set(array, page);
-    match array.wear(page) {
-        Ok((wear, _)) => PageReport { wear, set },
-        Err(_) => unreachable(),
-    }
+    PageReport { wear, set }
 }
 
 // How many cells of a page are set.

@@ -9,10 +9,6 @@ use std::io::Read;
 const ENOUGH: u64 = 65_536;
 
 fn main(rt: HostRuntime) -> anyhow::Result<()> {
-    run(&rt)
-}
-
-fn run(rt: &HostRuntime) -> anyhow::Result<()> {
     let mut script = Vec::new(rt.alloc());
     rt.stdin().take(ENOUGH).read_to_end(&mut script)?;
     let text = run_script(rt.alloc(), &script)?;

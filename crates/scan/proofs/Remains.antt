@@ -1,12 +1,11 @@
 -- The first piece of bytes that are left to cut, and what is left after it. Assumes nothing.
-use Rattle.std.proofs.Common.{◌≡◌, ℕ, ◌+◌, ◌<◌, ◌≤◌, ◌^◌, ◌⊎◌, Bool, eqb, not, List, [], ◌∷◌, length, take, drop, Some, None, Option, Bor, sym, refl, ap, ◌∙◌, subst, inl, inr, arith}
+use Rattle.std.proofs.Common.{◌≡◌, ℕ, ◌+◌, ◌<◌, ◌≤◌, ◌⊎◌, Bool, eqb, not, List, [], ◌∷◌, length, take, drop, Some, None, Option, Bor, sym, refl, ap, ◌∙◌, subst, inl, inr, arith}
 use Rattle.std.specs.List.{PartBy, position_or_len, position}
 use Rattle.std.specs.Option.{unwrap_or}
 use Rattle.std.proofs.lemmas.List.{take_all, length-drop}
 use Rattle.std.proofs.lemmas.List.Sums.{fails_before_first, prefix_len-le-length}
 use Rattle.std.proofs.lemmas.List.Splits.{slice_split_first, slice_split_none}
 use Rattle.std.proofs.lemmas.Bool.{cases_lt, lt-ltb, le-ltb}
-use Rattle.scan.specs.declared.pieces.Pieces.{Pieces}
 use Rattle.scan.specs.Rest.{reach}
 use Rattle.scan.specs.Pieces.{cut, left_of}
 
@@ -64,11 +63,3 @@ reach_kept at end xs None within part = omega (arith, go part.0)
     go : (length xs < end + 1) ⊎ (length xs < length xs) → length xs ≤ end
     go (inl h) = omega arith
     go (inr h) = absurd (omega arith)
-
--- every place that a piece can have is countable
-pub countable_at : (s : Pieces) → s.at ≤ 2 ^ 63
-countable_at s = go s.rest s.countable
-  where
-    go : (rest : Option (Bor (List ℕ))) → reach s.at rest ≤ 2 ^ 63 → s.at ≤ 2 ^ 63
-    go (Some rest) h = omega arith
-    go None h = h

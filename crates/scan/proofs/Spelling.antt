@@ -1,6 +1,6 @@
 -- Words that spell numbers. Assumes nothing.
-use Rattle.std.proofs.Common.{◌≡◌, ℕ, ◌+◌, ◌*◌, ◌^◌, ◌<◌, ◌≤◌, ◌⊎◌, List, length, get_or, Some, None, decimal, Option, sym, ap, ◌∙◌, inl, inr, add-one, arith, rules}
-use native.Mathlib.Nat.{pow-succ', pow-le-pow_right}
+use Rattle.std.proofs.Common.{◌≡◌, ℕ, ◌^◌, ◌<◌, ◌≤◌, ◌⊎◌, List, length, get_or, Some, None, decimal, Option, sym, ap, ◌∙◌, inl, inr, arith, rules}
+use native.Mathlib.Nat.{pow-le-pow_right}
 use Rattle.std.specs.Int.{IsInRange}
 use Rattle.std.proofs.lemmas.Fmt.{decimal-digits_value, decimal_nonempty, decimal_digit, digits_decimal, first_decimal, length-decimal-le}
 use Rattle.std.proofs.lemmas.Str.Parse.{IsNumeralModel, numerals_by_fold, tells_by_index, digits_value_short}
@@ -48,10 +48,6 @@ pub reads_digits :
     (w : List ℕ) (r : Option ℕ) → AddsUp w r → 0 < length w → length w ≤ 9 → (get_or w 0 0 ≡ 48 → length w ≡ 1) → Reads w r
 reads_digits w (Some n) (digits, is) some short first = rw is (spells_value w digits some short first)
 reads_digits w None other some short first = λ n spells. other (spelled_digits w n spells)
-
--- a number with one digit more
-pub digit_more : (n i d : ℕ) → n < 10 ^ i → d < 10 → 10 * n + d < 10 ^ (i + 1)
-digit_more n i d h below = rw (add-one, pow-succ') (omega arith)
 
 -- a number of fewer than nine digits
 pub digits_few : (n i : ℕ) → n < 10 ^ i → i < 9 → n < 100000000

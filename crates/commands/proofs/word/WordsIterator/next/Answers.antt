@@ -1,11 +1,7 @@
 use Rattle.std.proofs.Common.{◌+◌, length, refl, ap, ◌∙◌, arith}
 use Rattle.scan.specs.Pieces.{left}
-use Rattle.scan.proofs.Remains.{countable_at}
 use Rattle.commands.proofs.Counting.{placed_next, placed_none}
 use Rattle.commands.proofs.word.WordsIterator.next.Goals as goal
-
-pub overflow_add-result : goal.overflow_add-result
-overflow_add-result c = let place = c.in_ok-piece.ensures.steps.place in omega (arith, countable_at c.args.self.now.pieces)
 
 pub returns-in_err-piece-clause-steps : goal.returns-in_err-piece-clause-steps
 returns-in_err-piece-clause-steps c =

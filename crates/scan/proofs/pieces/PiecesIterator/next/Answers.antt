@@ -13,12 +13,6 @@ fits c =
     let whole = ap (reach c.args.self.now.at) c.in_ok-rest.was in
     omega arith
 
-pub overflow_add-self : goal.overflow_add-self
-overflow_add-self c = let within = c.end_of-end.ensures.within in omega (arith, fits (goal.at.overflow_add-self c).After-end_of-end)
-
-pub overflow_add-self-2 : goal.overflow_add-self-2
-overflow_add-self-2 c = let within = c.end_of-end.ensures.within in omega (arith, fits (goal.at.overflow_add-self-2 c).After-end_of-end)
-
 pub invariant_of-self : goal.invariant_of-self
 invariant_of-self c =
     let f = fits (goal.at.invariant_of-self c).After-end_of-end in
