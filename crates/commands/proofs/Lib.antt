@@ -1,4 +1,3 @@
-pub mod Beginnings
 pub mod Spelling
 pub mod Counting
 pub mod Forms
