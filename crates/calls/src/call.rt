@@ -1,5 +1,6 @@
 // The calls on a store, and those among them that every cell array can serve.
 // A list of them is what a store promises about.
+
 #[derive(Clone, Copy)]
 pub enum Call {
     Get { record: usize },

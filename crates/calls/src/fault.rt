@@ -1,5 +1,5 @@
-// Why a store refuses a call: the record, and the device's fault whole where the device refused.
-// Each stands for one number of the table of refusals.
+// Why a store refuses a call: the record, and the device's fault whole where the device refused. Each stands for one
+// number of the table of refusals. And how a refusal gains the place where it is met.
 ghost use Rattle.std.specs.Prelude.{◌≡◌, Result};
 ghost use Rattle.calls.specs.declared.fault.StoreFault.TheVariants.{Device};
 ghost use Rattle.calls.specs.Faults.{number, located};
@@ -17,6 +17,7 @@ pub enum StoreFault {
 }
 
 impl StoreFault {
+    // The number of the table of refusals, by cases, as that table has it.
     pub fn number(self) -> u32
         ensures { result ≡ number self }
     {

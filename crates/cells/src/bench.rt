@@ -70,6 +70,7 @@ impl CellArray for Bench {
         Ok(self.pages[page].set[cell])
     }
 
+    // `(*self)`, since `self.check_cell` would be that of an array that is lent.
     fn mark(&mut self, page: usize, cell: usize) -> Result<(), DeviceFault> {
         (*self).check_cell(page, cell)?;
         self.pages[page].set[cell] = true;

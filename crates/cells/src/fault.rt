@@ -12,6 +12,7 @@ pub enum DeviceFault {
 }
 
 impl DeviceFault {
+    // The number of the table of refusals, by cases, as that table has it.
     pub fn number(self) -> u32
         ensures { result ≡ device_number self }
     {

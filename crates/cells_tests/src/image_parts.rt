@@ -4,29 +4,24 @@ use crate::arrays::{check_counts, check_erasable_counts, check_set};
 use crate::sample_images::{FLASH, FUSE};
 use cells::array::{CellArray, Erasable};
 use cells::fault::DeviceFault;
-use images::flash::FlashPart;
-use images::fuse::FuseBank;
+use images::flash::{Flash, FlashPart};
+use images::fuse::{Fuse, FuseBank};
+use images::part::{Kind, Part};
 use std::process::Abort;
 
 // The image after a mark, and the answer.
-fn flash_mark(
-    mut image: [u8; 15],
+fn mark<K: Kind + Drop, const N: usize>(
+    mut image: [u8; N],
     page: usize,
     cell: usize,
-) -> ([u8; 15], Result<(), DeviceFault>) {
-    let answer = FlashPart::over(&mut image).mark(page, cell);
+) -> ([u8; N], Result<(), DeviceFault>) {
+    let answer = Part::<K>::over(&mut image).mark(page, cell);
     (image, answer)
 }
 
 // The image after an erase, and the answer.
 fn flash_erase(mut image: [u8; 15], page: usize) -> ([u8; 15], Result<(), DeviceFault>) {
     let answer = FlashPart::over(&mut image).erase(page);
-    (image, answer)
-}
-
-// The image after a mark, and the answer.
-fn fuse_mark(mut image: [u8; 7], page: usize, cell: usize) -> ([u8; 7], Result<(), DeviceFault>) {
-    let answer = FuseBank::over(&mut image).mark(page, cell);
     (image, answer)
 }
 
@@ -66,9 +61,9 @@ fn a_flash_mark_alters_one_bit(rt: HostRuntime) {
     for (page, cell, pages) in cases {
         let mut expected = FLASH;
         expected[11..15].copy_from_slice(&pages);
-        assert_eq!(rt; flash_mark(FLASH, page, cell), (expected, Ok(())));
+        assert_eq!(rt; mark::<Flash, 15>(FLASH, page, cell), (expected, Ok(())));
         assert_eq!(rt;
-            flash_mark(expected, page, cell),
+            mark::<Flash, 15>(expected, page, cell),
             (expected, Ok(())),
             "marked again"
         );
@@ -135,9 +130,9 @@ fn a_fuse_mark_alters_one_bit(rt: HostRuntime) {
         (1, 11, [2, 0, 12, 0x01, 0x02, 0x0c, 0x08]),
     ];
     for (page, cell, expected) in cases {
-        assert_eq!(rt; fuse_mark(FUSE, page, cell), (expected, Ok(())));
+        assert_eq!(rt; mark::<Fuse, 7>(FUSE, page, cell), (expected, Ok(())));
         assert_eq!(rt;
-            fuse_mark(expected, page, cell),
+            mark::<Fuse, 7>(expected, page, cell),
             (expected, Ok(())),
             "marked again"
         );

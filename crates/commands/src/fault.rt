@@ -18,6 +18,7 @@ pub enum LineFault {
 }
 
 impl LineFault {
+    // The number of the table of refusals, by cases, as that table has it.
     pub fn number(self) -> u32
         ensures { result ≡ line_number self }
     {

@@ -11,7 +11,7 @@ use scan::pieces::Pieces;
 #[derive(Clone, Copy)]
 pub enum GroupWord {
     One(Factor),
-    // the factors themselves: a `Product` hands out neither of them
+    // The factors, and no `Product` of them: each method makes its own, so that an edit can turn one use alone.
     Two(Factor, Factor),
 }
 

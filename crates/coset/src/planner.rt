@@ -18,10 +18,38 @@ const ROW: usize = 64;
 
 const ENTRIES: usize = ROW * ROW;
 
-// Entry 64 i + s: the fewest of the free cells from cell i on that sum to s.
+// Entry 64 i + s: the fewest of the free cells from cell i on that sum to s. The rules have one table of 4,096 entries,
+// and so it is no array of rows.
 #[derive(Clone, Copy)]
 struct Table {
     fewest: [u8; ENTRIES],
+}
+
+impl Table {
+    fn unreached() -> Self
+        ensures { (i s : ℕ) → i < 64 → s < 64 → fewest_at result i s ≡ 255 }
+    {
+        Table {
+            fewest: [UNREACHED; ENTRIES],
+        }
+    }
+
+    // Elements are 32-bit numbers, which have no `From` into an index; that the cast loses nothing is proved.
+    fn get(&self, cell: usize, s: u32) -> u8
+        requires cell_bound { cell < 64 }
+        requires s_bound { s < 64 }
+        ensures { result ≡ fewest_at self.now cell s }
+    {
+        self.fewest[cell * ROW + s as usize]
+    }
+
+    fn put(&mut self, cell: usize, s: u32, count: u8)
+        requires cell_bound { cell < 64 }
+        requires s_bound { s < 64 }
+        ensures { Puts cell s count self.old self.new }
+    {
+        self.fewest[cell * ROW + s as usize] = count;
+    }
 }
 
 // A set of the fewest free cells of n that sum to `step`, or none where no free cells do.
@@ -107,32 +135,5 @@ impl<G: Group> Search<'_, G> {
             }
         }
         chosen
-    }
-}
-
-impl Table {
-    fn unreached() -> Self
-        ensures { (i s : ℕ) → i < 64 → s < 64 → fewest_at result i s ≡ 255 }
-    {
-        Table {
-            fewest: [UNREACHED; ENTRIES],
-        }
-    }
-
-    // Elements are 32-bit numbers, which have no `From` into an index; that the cast loses nothing is proved.
-    fn get(&self, cell: usize, s: u32) -> u8
-        requires cell_bound { cell < 64 }
-        requires s_bound { s < 64 }
-        ensures { result ≡ fewest_at self.now cell s }
-    {
-        self.fewest[cell * ROW + s as usize]
-    }
-
-    fn put(&mut self, cell: usize, s: u32, count: u8)
-        requires cell_bound { cell < 64 }
-        requires s_bound { s < 64 }
-        ensures { Puts cell s count self.old self.new }
-    {
-        self.fewest[cell * ROW + s as usize] = count;
     }
 }

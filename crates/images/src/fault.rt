@@ -24,6 +24,7 @@ pub enum ImageFault {
 }
 
 impl ImageFault {
+    // The number of the table of refusals, by cases, as that table has it.
     pub fn number(self) -> u32
         ensures { result ≡ image_number self }
     {

@@ -25,10 +25,9 @@ impl<G: Group> Code<'_, G> {
         for cell in set {
             held.insert(*cell);
         }
-        let name = self.name;
         let value = label_sum(&self.group, self.cells, &held);
         let step = self.group.step(value, target);
-        print!(rt; "{name}: from {value} to {target}, step {step}:")?;
+        print!(rt; "{}: from {value} to {target}, step {step}:", self.name)?;
         match plan(&self.group, self.cells, &held.complement(), step) {
             None => println!(rt; " full"),
             Some(plan) => print_cells(rt, &plan),

@@ -4,7 +4,7 @@ ghost use Rattle.std.specs.Prelude.{◌≡◌, true, false, MatchResult, IsOkAnd
 ghost use Rattle.coset.specs.Code.{code};
 ghost use Rattle.calls.specs.Calls.{state_of};
 ghost use Rattle.calls.specs.Promise.{RefusedFull};
-ghost use Rattle.store.specs.Keeps.{Keeps};
+ghost use Rattle.store.specs.Keeps.{Keeps, code_of, state};
 ghost use Rattle.script.specs.Tells.{refused, OrderTells, LineTells, Course, spoken};
 
 use crate::fault::{OrderPlace, ScriptFault};
@@ -19,27 +19,27 @@ use store::store::Store;
 // Reads a line, and carries its order out.
 pub(crate) fn answer_line<G: Group, A: Erasable>(store: &mut Store<G, A>, line: Line) -> Reply
     ensures keeps { Keeps A.CellArray.held A.CellArray.intact store.old store.new }
-    ensures course { Course (code (G.Group.meaning store.old.group) store.old.n) (λ h. LineTells line.entry.number line.entry.bytes.now (state_of (A.CellArray.cells store.old.array) store.old.ledger) h result) (state_of (A.CellArray.cells store.old.array) store.old.ledger) (state_of (A.CellArray.cells store.new.array) store.new.ledger) }
+    ensures course { Course (code_of G.Group.meaning store.old) (λ h. LineTells line.entry.number line.entry.bytes.now (state A.CellArray.cells store.old) h result) (state A.CellArray.cells store.old) (state A.CellArray.cells store.new) }
 {
     obey(store, line).unwrap_or_else(|fault| Reply::Refused { fault })
 }
 
 fn obey<G: Group, A: Erasable>(store: &mut Store<G, A>, line: Line) -> Result<Reply, ScriptFault>
     ensures keeps { Keeps A.CellArray.held A.CellArray.intact store.old store.new }
-    ensures course { Course (code (G.Group.meaning store.old.group) store.old.n) (λ h. LineTells line.entry.number line.entry.bytes.now (state_of (A.CellArray.cells store.old.array) store.old.ledger) h (spoken result)) (state_of (A.CellArray.cells store.old.array) store.old.ledger) (state_of (A.CellArray.cells store.new.array) store.new.ledger) }
+    ensures course { Course (code_of G.Group.meaning store.old) (λ h. LineTells line.entry.number line.entry.bytes.now (state A.CellArray.cells store.old) h (spoken result)) (state A.CellArray.cells store.old) (state A.CellArray.cells store.new) }
 {
     let order = Order::read(line.bytes).located_at(line.number)?;
     carry_out(store, line.number, order)
 }
 
-// Makes the calls of an order.
+// Makes the calls of an order. A 32-bit number has no `From` into an index; that each cast loses nothing is proved.
 fn carry_out<G: Group, A: Erasable>(
     store: &mut Store<G, A>,
     line: usize,
     order: Order,
 ) -> Result<Reply, ScriptFault>
     ensures keeps { Keeps A.CellArray.held A.CellArray.intact store.old store.new }
-    ensures course { Course (code (G.Group.meaning store.old.group) store.old.n) (λ h. OrderTells line order (state_of (A.CellArray.cells store.old.array) store.old.ledger) h (spoken result)) (state_of (A.CellArray.cells store.old.array) store.old.ledger) (state_of (A.CellArray.cells store.new.array) store.new.ledger) }
+    ensures course { Course (code_of G.Group.meaning store.old) (λ h. OrderTells line order (state A.CellArray.cells store.old) h (spoken result)) (state A.CellArray.cells store.old) (state A.CellArray.cells store.new) }
 {
     match order {
         Order::Put { record, value } => {

@@ -26,6 +26,7 @@ pub enum Cause {
 }
 
 impl Cause {
+    // that of the fault within
     pub fn number(self) -> u32
         ensures { result ≡ cause_number self }
     {
@@ -102,7 +103,7 @@ impl OrderPlace {
         }
     }
 
-    // where a get stands, whose order has no value
+    // Where a get stands. It has no value and is never refused for one, so 1 is a column that nothing names.
     pub(crate) fn of_get(line: usize, record: Number) -> OrderPlace
         ensures { result ≡ record { line = line; «record» = «record».column; value = 1 } }
     {

@@ -5,6 +5,7 @@ ghost use Rattle.calls.specs.Calls.{state_of};
 ghost use Rattle.calls.specs.Ledger.{blank};
 ghost use Rattle.script.specs.Lines.{lines_left};
 ghost use Rattle.script.specs.Tells.{Answered};
+ghost use Rattle.store.specs.Keeps.{state};
 
 use crate::answer::answer_line;
 use crate::lines::Lines;
@@ -33,7 +34,7 @@ fn answer_lines<G: Group, A: Erasable>(
     store: &mut Store<G, A>,
     lines: Lines,
 ) -> Result<Vec<Reply>, AllocError>
-    ensures { IfOk result (λ v. Answered (G.Group.meaning store.old.group) store.old.n (state_of (A.CellArray.cells store.old.array) store.old.ledger) (lines_left lines.entry) v.items) }
+    ensures { IfOk result (λ v. Answered (G.Group.meaning store.old.group) store.old.n (state A.CellArray.cells store.old) (lines_left lines.entry) v.items) }
 {
     let mut replies = Vec::new(heap);
     replies.push(Reply::Made {

@@ -51,9 +51,8 @@ fn open_store(heap: Global, place: HeadPlace, lines: Lines) -> Result<Vec<Reply>
         width,
     } = place.heading;
     let n = n.value as usize;
-    let mut image = fresh_flash(heap, pages.value as usize, width.value as usize).located_at(
-        place,
-    )?;
+    let fresh = fresh_flash(heap, pages.value as usize, width.value as usize);
+    let mut image = fresh.located_at(place)?;
     let mut part = FlashPart::over(&mut image);
     check_making(&group, &part, n).located_at(place)?;
     Ok(answer_rest(heap, group, &mut part, n, lines)?)

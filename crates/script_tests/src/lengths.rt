@@ -57,13 +57,11 @@ const SCRIPTS: &[Filled] = &[
 #[test]
 fn longest_lines(rt: HostRuntime) -> Result<(), Fail> {
     let heap = rt.alloc();
-    for (i, (start, fill, length, expected)) in HEADS.iter().enumerate() {
-        let line = filled(heap, start, *fill, *length)?;
-        HEAD.check(&rt, heap, "longest", i, &line, expected)?;
-    }
-    for (i, (start, fill, length, expected)) in LINES.iter().enumerate() {
-        let line = filled(heap, start, *fill, *length)?;
-        LINE.check(&rt, heap, "longest", i, &line, expected)?;
+    for (place, table) in [(HEAD, HEADS), (LINE, LINES)] {
+        for (i, (start, fill, length, expected)) in table.iter().enumerate() {
+            let line = filled(heap, start, *fill, *length)?;
+            place.check(&rt, heap, "longest", i, &line, expected)?;
+        }
     }
     Ok(())
 }

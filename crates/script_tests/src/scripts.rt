@@ -27,6 +27,7 @@ pub fn check_scripts(
 
 // Where the lines of a table stand, each in a script of its own: what goes before and after the line, and what is
 // printed before and after its answer.
+#[derive(Clone, Copy)]
 pub struct Place<'a> {
     name: &'a str,
     before: &'a [u8],

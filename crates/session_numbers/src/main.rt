@@ -41,6 +41,7 @@ fn show_run<A: Erasable>(rt: &HostRuntime, array: &mut A, calls: &[Call]) -> any
     Ok(())
 }
 
+// An array has no pages to go over, but answers by the number of one.
 fn show_wear<A: Erasable>(rt: &HostRuntime, array: &A) -> io::Result<()> {
     for page in 0..array.pages() {
         if let Ok((wear, limit)) = array.wear(page) {
@@ -68,18 +69,15 @@ fn show_call(rt: &HostRuntime, call: Call, answer: Result<u32, StoreFault>) -> i
     };
     match answer {
         Ok(count) => println!(rt; "{what} {count}"),
-        Err(fault) => {
-            let number = fault.number();
-            println!(rt; "refused {number}")
-        }
+        Err(fault) => println!(rt; "refused {}", fault.number()),
     }
 }
 
 fn show_ledger(rt: &HostRuntime, ledger: &Ledger) -> io::Result<()> {
-    let changes = ledger.changes;
-    let renewals = ledger.renewals;
-    let marked = ledger.marked;
-    print!(rt; "changes {changes}, renewals {renewals}, cells set {marked}, ")?;
+    print!(rt;
+        "changes {}, renewals {}, cells set {}, ",
+        ledger.changes, ledger.renewals, ledger.marked
+    )?;
     match ledger.rate() {
         Some(rate) => println!(rt; "changes to a hundred renewals {rate}"),
         None => println!(rt; "no renewals"),

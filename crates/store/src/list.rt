@@ -6,7 +6,7 @@ ghost use Rattle.calls.specs.declared.call.Call.{Call as CallMeaning};
 ghost use Rattle.calls.specs.Calls.{state_of, Obeys};
 ghost use Rattle.calls.specs.Promise.{Promise, WithinCeiling};
 ghost use Rattle.calls.specs.Runs.{as_call};
-ghost use Rattle.store.specs.Keeps.{Keeps};
+ghost use Rattle.store.specs.Keeps.{Keeps, code_of, state};
 
 use crate::store::Store;
 use calls::call::{Access, Call};
@@ -23,7 +23,7 @@ pub trait Request<A: CellArray> {
 
     fn serve<G: Group>(&self, store: &mut Store<G, A>) -> Result<u32, StoreFault>
         ensures keeps { Keeps A.CellArray.held A.CellArray.intact store.old store.new }
-        ensures obeys { Obeys (code (G.Group.meaning store.old.group) store.old.n) (call self.now) result (state_of (A.CellArray.cells store.old.array) store.old.ledger) (state_of (A.CellArray.cells store.new.array) store.new.ledger) };
+        ensures obeys { Obeys (code_of G.Group.meaning store.old) (call self.now) result (state A.CellArray.cells store.old) (state A.CellArray.cells store.new) };
 }
 
 impl<A: Erasable> Request<A> for Call {
@@ -57,9 +57,10 @@ impl<G: Group, A: CellArray> Store<G, A> {
         calls: &[C],
     ) -> Result<Vec<Result<u32, StoreFault>>, AllocError>
         ensures keeps { Keeps A.CellArray.held A.CellArray.intact self.old self.new }
-        ensures promise { IfOk result (λ answers. Promise (G.Group.meaning self.old.group) self.old.n (state_of (A.CellArray.cells self.old.array) self.old.ledger) (map C.Request.call calls.now) answers.items (state_of (A.CellArray.cells self.new.array) self.new.ledger)) }
+        ensures promise { IfOk result (λ answers. Promise (G.Group.meaning self.old.group) self.old.n (state A.CellArray.cells self.old) (map C.Request.call calls.now) answers.items (state A.CellArray.cells self.new)) }
         ensures refused { OnErr result (self.new ≡ self.old) }
     {
+        // The counts have 32 bits, which the proof learns where they are read.
         let _largest = largest(&self.ledger);
         let mut answers = Vec::with_capacity(heap, calls.len())?;
         for call in calls {

@@ -18,6 +18,7 @@ pub enum MakingFault {
 }
 
 impl MakingFault {
+    // The number of the table of refusals, by cases, as that table has it.
     pub fn number(self) -> u32
         ensures { result ≡ making_number self }
     {

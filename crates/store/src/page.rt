@@ -5,6 +5,7 @@ ghost use Rattle.cells.specs.Device.{Kept};
 ghost use Rattle.coset.specs.Code.{code};
 ghost use Rattle.calls.specs.Records.{records, per_page, page_of};
 ghost use Rattle.store.specs.Steps.{PlansPage, PageWritten};
+ghost use Rattle.store.specs.Keeps.{code_of};
 
 use crate::place::{MAX_PER_PAGE, PagePlans, Place};
 use crate::record;
@@ -18,10 +19,10 @@ impl<G: Group, A: CellArray> Store<G, A> {
     // The plans of the records of a record's page from empty: its own for a new value, every other for the value that
     // it holds. None where the new value is out of reach.
     pub(crate) fn plan_page(&self, record: usize, value: u32) -> Option<PagePlans>
-        requires { «record» < records (code (G.Group.meaning self.now.group) self.now.n) (A.CellArray.cells self.now.array) }
-        ensures { PlansPage (code (G.Group.meaning self.now.group) self.now.n) (A.CellArray.cells self.now.array) (page_of (code (G.Group.meaning self.now.group) self.now.n) (A.CellArray.cells self.now.array) «record») («record» % per_page (code (G.Group.meaning self.now.group) self.now.n) (A.CellArray.cells self.now.array)) value result }
+        requires { «record» < records (code_of G.Group.meaning self.now) (A.CellArray.cells self.now.array) }
+        ensures { PlansPage (code_of G.Group.meaning self.now) (A.CellArray.cells self.now.array) (page_of (code_of G.Group.meaning self.now) (A.CellArray.cells self.now.array) «record») («record» % per_page (code_of G.Group.meaning self.now) (A.CellArray.cells self.now.array)) value result }
     {
-        // The loop is over numbers, since each gives a plan and also the first cell of its record.
+        // Over numbers, since of what an `iter_mut` is cut to nothing would be known; each is also the place of a record.
         let records = self.per_page();
         let page = record / records;
         let empty = CellSet::empty();
@@ -42,7 +43,8 @@ impl<G: Group, A: CellArray> Store<G, A> {
     }
 }
 
-// Writes the plans into a page with no cell set, and answers how many cells that sets.
+// Writes the plans into a page with no cell set, and answers how many cells that sets. A function of the array alone, so
+// that nothing has to be said of the rest of the store.
 pub(crate) fn write_page<A: CellArray>(
     array: &mut A,
     n: usize,

@@ -6,6 +6,7 @@ ghost use Rattle.cells.specs.Sets.{size_below};
 ghost use Rattle.coset.specs.CellSets.{members_of};
 ghost use Rattle.coset.specs.Code.{code, sum_of};
 ghost use Rattle.store.specs.Steps.{Inside, Places, Finds, cells_from, SetsCells};
+ghost use Rattle.store.specs.Keeps.{code_of};
 
 use crate::place::{Found, Place};
 use crate::store::Store;
@@ -18,7 +19,7 @@ use group::interface::Group;
 impl<G: Group, A: CellArray> Store<G, A> {
     // The record of a number, with its set cells and its value.
     pub(crate) fn find(&self, record: usize) -> Result<Found, StoreFault>
-        ensures { Finds (code (G.Group.meaning self.now.group) self.now.n) (A.CellArray.cells self.now.array) «record» result }
+        ensures { Finds (code_of G.Group.meaning self.now) (A.CellArray.cells self.now.array) «record» result }
     {
         let place = self.place(record)?;
         let held = self.read(place);
@@ -27,7 +28,7 @@ impl<G: Group, A: CellArray> Store<G, A> {
     }
 
     pub(crate) fn place(&self, record: usize) -> Result<Place, StoreFault>
-        ensures { Places (code (G.Group.meaning self.now.group) self.now.n) (A.CellArray.cells self.now.array) «record» result }
+        ensures { Places (code_of G.Group.meaning self.now) (A.CellArray.cells self.now.array) «record» result }
     {
         if record >= self.records() {
             return Err(StoreFault::NoRecord { record });
@@ -39,7 +40,7 @@ impl<G: Group, A: CellArray> Store<G, A> {
         })
     }
 
-    // The set cells of a record.
+    // The set cells of a record. An array has no cells to go over, but answers by the number of one.
     fn read(&self, at: Place) -> CellSet
         requires { Inside (A.CellArray.cells self.now.array) self.now.n at }
         ensures { (i : ℕ) → i < self.now.n → members_of result i ≡ cells_from (A.CellArray.cells self.now.array) at i }
@@ -56,13 +57,14 @@ impl<G: Group, A: CellArray> Store<G, A> {
     // The value of a record.
     pub(crate) fn value_at(&self, at: Place) -> u32
         requires { Inside (A.CellArray.cells self.now.array) self.now.n at }
-        ensures { result ≡ sum_of (code (G.Group.meaning self.now.group) self.now.n) (cells_from (A.CellArray.cells self.now.array) at) }
+        ensures { result ≡ sum_of (code_of G.Group.meaning self.now) (cells_from (A.CellArray.cells self.now.array) at) }
     {
         label_sum(&self.group, self.n, &self.read(at))
     }
 }
 
-// Sets the cells of a set, and answers how many they are.
+// Sets the cells of a set, each counted where it is set, and answers how many they are. A function of the array alone, so
+// that nothing has to be said of the rest of the store.
 pub(crate) fn write<A: CellArray>(array: &mut A, n: usize, at: Place, set: &CellSet) -> u32
     requires { Inside (A.CellArray.cells array.old) n at }
     ensures kept { Kept A.CellArray.held A.CellArray.intact array.old array.new }

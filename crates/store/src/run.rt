@@ -41,7 +41,8 @@ pub fn run_calls<G: Group + Drop, A: Erasable>(
 }
 
 // Makes a store over any cell array, and applies gets and puts to it.
-// It is not one with `run_calls`, since no bound can say yet that a list can be served over every borrow of an array.
+// It is not one with `run_calls`: that a list is served over every borrow of an array is no bound that can be stated yet,
+// and where the borrow has a lifetime of its own, the contract cannot speak of the array afterwards.
 pub fn run_accesses<G: Group + Drop, A: CellArray>(
     heap: Global,
     group: G,

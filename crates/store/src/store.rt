@@ -9,7 +9,7 @@ ghost use Rattle.coset.specs.Plans.{Plans};
 ghost use Rattle.coset.specs.Code.{code};
 ghost use Rattle.calls.specs.Ledger.{blank};
 ghost use Rattle.calls.specs.Records.{makes, per_page, records};
-ghost use Rattle.store.specs.Keeps.{Keeps};
+ghost use Rattle.store.specs.Keeps.{Keeps, code_of, state};
 
 use crate::making::check_making;
 use crate::place::{Found, MAX_PER_PAGE};
@@ -47,7 +47,7 @@ impl<G: Group, A: CellArray> Store<G, A> {
 
     // The records to a page; none where the making's check refuses.
     pub(crate) fn per_page(&self) -> usize
-        ensures { result ≡ (if makes (code (G.Group.meaning self.now.group) self.now.n) (A.CellArray.cells self.now.array) then per_page (code (G.Group.meaning self.now.group) self.now.n) (A.CellArray.cells self.now.array) else 0) }
+        ensures { result ≡ (if makes (code_of G.Group.meaning self.now) (A.CellArray.cells self.now.array) then per_page (code_of G.Group.meaning self.now) (A.CellArray.cells self.now.array) else 0) }
     {
         match check_making(&self.group, &self.array, self.n) {
             Ok(()) => (self.array.width() / self.n).min(MAX_PER_PAGE),
@@ -56,7 +56,7 @@ impl<G: Group, A: CellArray> Store<G, A> {
     }
 
     pub fn records(&self) -> usize
-        ensures { result ≡ records (code (G.Group.meaning self.now.group) self.now.n) (A.CellArray.cells self.now.array) }
+        ensures { result ≡ records (code_of G.Group.meaning self.now) (A.CellArray.cells self.now.array) }
     {
         self.array.pages() * self.per_page()
     }
@@ -64,7 +64,7 @@ impl<G: Group, A: CellArray> Store<G, A> {
     // The fewest cells that are not set and take a record to a value.
     fn plan_to(&self, found: &Found, value: u32) -> Option<CellSet>
         requires { self.now.n ≤ 63 }
-        ensures { Plans (code (G.Group.meaning self.now.group) self.now.n) (λ i. not (members_of found.now.held i)) (step (G.Group.meaning self.now.group) found.now.value value) result }
+        ensures { Plans (code_of G.Group.meaning self.now) (λ i. not (members_of found.now.held i)) (step (G.Group.meaning self.now.group) found.now.value value) result }
     {
         let step = self.group.step(found.value, value);
         plan(&self.group, self.n, &found.held.complement(), step)
@@ -79,7 +79,7 @@ impl<G: Group, A: CellArray> Store<G, A> {
 
     // The value of a record.
     pub fn get(&self, record: usize) -> Result<u32, StoreFault>
-        ensures { Obeys (code (G.Group.meaning self.now.group) self.now.n) (Get «record») result (state_of (A.CellArray.cells self.now.array) self.now.ledger) (state_of (A.CellArray.cells self.now.array) self.now.ledger) }
+        ensures { Obeys (code_of G.Group.meaning self.now) (Get «record») result (state A.CellArray.cells self.now) (state A.CellArray.cells self.now) }
     {
         Ok(self.find(record)?.value)
     }
@@ -87,7 +87,7 @@ impl<G: Group, A: CellArray> Store<G, A> {
     // Sets the fewest cells that take a record to a value, and answers how many.
     pub fn put(&mut self, record: usize, value: u32) -> Result<u32, StoreFault>
         ensures keeps { Keeps A.CellArray.held A.CellArray.intact self.old self.new }
-        ensures obeys { Obeys (code (G.Group.meaning self.old.group) self.old.n) (Put «record» value) result (state_of (A.CellArray.cells self.old.array) self.old.ledger) (state_of (A.CellArray.cells self.new.array) self.new.ledger) }
+        ensures obeys { Obeys (code_of G.Group.meaning self.old) (Put «record» value) result (state A.CellArray.cells self.old) (state A.CellArray.cells self.new) }
     {
         let found = self.find(record)?;
         if value >= self.group.order() {
@@ -106,12 +106,13 @@ impl<G: Group, A: Erasable> Store<G, A> {
     // Erases the page of a record, and writes its records again: this one with a new value, the others with theirs.
     pub fn renew(&mut self, record: usize, value: u32) -> Result<u32, StoreFault>
         ensures keeps { Keeps A.CellArray.held A.CellArray.intact self.old self.new }
-        ensures obeys { Obeys (code (G.Group.meaning self.old.group) self.old.n) (Renew «record» value) result (state_of (A.CellArray.cells self.old.array) self.old.ledger) (state_of (A.CellArray.cells self.new.array) self.new.ledger) }
+        ensures obeys { Obeys (code_of G.Group.meaning self.old) (Renew «record» value) result (state A.CellArray.cells self.old) (state A.CellArray.cells self.new) }
     {
         let found = self.find(record)?;
         if value >= self.group.order() {
             return Err(StoreFault::NoValue { record });
         }
+        // As a pattern, which tells the proof that there is no plan.
         let None = self.plan_to(&found, value) else {
             return Err(StoreFault::Fits { record });
         };

@@ -56,14 +56,14 @@ fn check_run<C>(rt: &impl Abort, run: Run, cases: &[(C, Answer)]) -> Ledger {
 }
 
 // The set cells of a page, in rising order.
-pub fn set_cells<A: CellArray>(
-    heap: Global,
-    array: &A,
-    page: usize,
-) -> Result<Vec<usize>, AllocError> {
-    (0..array.width())
-        .filter(|cell| array.is_set(page, *cell))
-        .collect(heap)
+pub fn set_cells<A: CellArray>(heap: Global, array: &A, page: usize) -> Result<Vec<usize>, Fail> {
+    let mut cells = Vec::new(heap);
+    for cell in 0..array.width() {
+        if array.look(page, cell)? {
+            cells.push(cell)?;
+        }
+    }
+    Ok(cells)
 }
 
 // That these and no other cells of a page are set, and that the page has this wear.

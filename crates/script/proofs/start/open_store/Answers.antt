@@ -10,14 +10,14 @@ pub returns-in_err-image : goal.returns-in_err-image
 returns-in_err-image c =
     let p = err_from_is_err_and c.from_residual.result c.from_residual.ensures.1 in
     rw (p.1, p.2)
-    (image_stopped c.args.place vec_items c.fresh_flash.result c.in_err-image.field-0.0
-    (sym c.located_at.ensures ∙ c.in_err-image.was) c.fresh_flash.ensures)
+    (image_stopped c.args.place vec_items c.fresh_flash-fresh.result c.in_err-image.field-0.0
+    (sym c.located_at.ensures ∙ c.in_err-image.was) c.fresh_flash-fresh.ensures)
 
 pub returns-in_err-located_at : goal.returns-in_err-located_at
 returns-in_err-located_at c =
     let place = c.args.place in
     let image =
-    image_made place vec_items c.fresh_flash.result c.in_ok-image.image (sym c.located_at.ensures ∙ c.in_ok-image.was) c.fresh_flash.ensures in
+    image_made place vec_items c.fresh_flash-fresh.result c.in_ok-image.image (sym c.located_at.ensures ∙ c.in_ok-image.was) c.fresh_flash-fresh.ensures in
     let fresh =
     fresh_part place.heading.pages.value place.heading.width.value (vec_items c.in_ok-image.image) c.over-part.result.image.now c.deref_mut.result.now
     c.over-part.result.layout image.1 c.deref_mut.ensures.value c.over-part.ensures.meaning c.over-part.ensures.bytes in
@@ -31,7 +31,7 @@ returns c =
     let place = c.args.place in
     let lines = lines_left c.args.lines in
     let image =
-    image_made place vec_items c.fresh_flash.result c.in_ok-image.image (sym c.located_at.ensures ∙ c.in_ok-image.was) c.fresh_flash.ensures in
+    image_made place vec_items c.fresh_flash-fresh.result c.in_ok-image.image (sym c.located_at.ensures ∙ c.in_ok-image.was) c.fresh_flash-fresh.ensures in
     let fresh =
     fresh_part place.heading.pages.value place.heading.width.value (vec_items c.in_ok-image.image) c.over-part.result.image.now c.deref_mut.result.now
     c.over-part.result.layout image.1 c.deref_mut.ensures.value c.over-part.ensures.meaning c.over-part.ensures.bytes in
