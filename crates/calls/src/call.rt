@@ -8,7 +8,9 @@ pub enum Call {
     Renew { record: usize, value: u32 },
 }
 
-// A call that needs no erase, so that it can be made over any cell array.
+// A call that needs no erase, so that it can be made over any cell array. No row of the table of refusals says how a
+// renewal is refused over another, so such a list has a type of its own. `Call` has these cases itself, and holds no
+// `Access`, so that a get, a put and a renewal are written alike.
 #[derive(Clone, Copy)]
 pub enum Access {
     Get { record: usize },

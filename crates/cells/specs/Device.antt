@@ -65,6 +65,11 @@ abbrev pub Wears : Cells → ℕ → Result (ℕ × ℕ) DeviceFault → Type 0
 Wears m p (Ok w) = Served (page_rows m p) × (w.0 ≡ m.wear p) × (w.1 ≡ m.limit) × (1 ≤ m.limit)
 Wears m p (Err f) = Refused (page_rows m p) (device_number f) × Names f p None
 
+-- The check that the page p can be erased once more answers its wear.
+abbrev pub FindsErase : Cells → ℕ → Result ℕ DeviceFault → Type 0
+FindsErase m p (Ok w) = Served (erase_rows m p) × (w ≡ m.wear p)
+FindsErase m p (Err f) = Refused (erase_rows m p) (device_number f) × Names f p None
+
 -- An erase unsets the page.
 abbrev pub Erases : ℕ → Cells → Cells → {A : Type 0} → Result A DeviceFault → Type 0
 Erases p before after (Ok u) = Served (erase_rows before p) × Erased p before after

@@ -3,7 +3,7 @@
 ghost use Rattle.std.specs.Prelude.{◌≡◌, List};
 ghost use Rattle.std.specs.Borrow.{GName};
 ghost use Rattle.cells.specs.Cells.{Cells, Bounded, is_set};
-ghost use Rattle.cells.specs.Device.{FindsPage, FindsCell, Kept, Looks, Marks, Wears, Erases};
+ghost use Rattle.cells.specs.Device.{FindsPage, FindsCell, FindsErase, Kept, Looks, Marks, Wears, Erases};
 
 use crate::fault::DeviceFault;
 
@@ -72,9 +72,20 @@ pub trait CellArray {
 
 // A cell array whose pages can be erased.
 pub trait Erasable: CellArray {
-    // a page's wear, and the limit
+    // A page's wear, and the limit: a pair, since whoever asks takes it apart at once.
     fn wear(&self, page: usize) -> Result<(u32, u32), DeviceFault>
         ensures { Wears (Self.CellArray.cells self.now) page result };
+
+    // That a page can be erased once more, with its wear so far, or the fault of an erase.
+    fn check_erase(&self, page: usize) -> Result<u32, DeviceFault>
+        ensures { FindsErase (Self.CellArray.cells self.now) page result }
+    {
+        let (worn, limit) = self.wear(page)?;
+        if worn >= limit {
+            return Err(DeviceFault::Worn { page });
+        }
+        Ok(worn)
+    }
 
     fn erase(&mut self, page: usize) -> Result<(), DeviceFault>
         ensures kept { Kept Self.CellArray.held Self.CellArray.intact self.old self.new }

@@ -32,6 +32,7 @@ impl Page {
     }
 }
 
+// The rules give the part memory of its own, of a fixed size.
 #[derive(Drop)]
 pub struct Bench {
     pages: [Page; PAGES],
@@ -85,10 +86,7 @@ impl Erasable for Bench {
     }
 
     fn erase(&mut self, page: usize) -> Result<(), DeviceFault> {
-        let (worn, limit) = (*self).wear(page)?;
-        if worn >= limit {
-            return Err(DeviceFault::Worn { page });
-        }
+        let worn = (*self).check_erase(page)?;
         self.pages[page] = Page::unset(worn + 1);
         Ok(())
     }

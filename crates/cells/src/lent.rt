@@ -5,6 +5,7 @@ ghost use Rattle.std.specs.Prelude.{◌∷◌};
 use crate::array::{CellArray, Erasable};
 use crate::fault::DeviceFault;
 
+// Each method hands its own question on.
 impl<A: CellArray> CellArray for &mut A {
     ghost cells = { λ a. A.CellArray.cells a.now };
 

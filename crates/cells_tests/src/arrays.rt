@@ -1,5 +1,7 @@
 // What the tests ask of an array of any kind.
 // Only the last function here sets cells and wears a page; the others look, or ask for what must be refused.
+// Each takes the runtime, by which a test fails, beside its array, and counts or places as numbers: a struct would be
+// made for each call.
 use cells::array::{CellArray, Erasable};
 use cells::fault::DeviceFault;
 use std::process::Abort;
@@ -7,7 +9,14 @@ use std::test::Fail;
 
 // That these and no other cells of a page are set.
 pub fn check_set<A: CellArray>(rt: &impl Abort, array: &A, page: usize, cells: &[usize]) {
-    check_noted_set(rt, array, page, cells, "");
+    // A loop, since each turn asserts something of its cell.
+    for cell in 0..array.width() {
+        assert_eq!(rt;
+            array.look(page, cell),
+            Ok(cells.contains(&cell)),
+            "page {page}, cell {cell}"
+        );
+    }
 }
 
 // The same, and that the page has this wear and limit.
@@ -18,36 +27,8 @@ pub fn check_page<A: Erasable>(
     cells: &[usize],
     wear: (u32, u32),
 ) {
-    check_noted_page(rt, array, page, cells, wear, "");
-}
-
-// Of these two, each failure ends with the note.
-fn check_noted_set<A: CellArray>(
-    rt: &impl Abort,
-    array: &A,
-    page: usize,
-    cells: &[usize],
-    note: &str,
-) {
-    for cell in 0..array.width() {
-        assert_eq!(rt;
-            array.look(page, cell),
-            Ok(cells.contains(&cell)),
-            "page {page}, cell {cell}{note}"
-        );
-    }
-}
-
-fn check_noted_page<A: Erasable>(
-    rt: &impl Abort,
-    array: &A,
-    page: usize,
-    cells: &[usize],
-    wear: (u32, u32),
-    note: &str,
-) {
-    assert_eq!(rt; array.wear(page), Ok(wear), "page {page}{note}");
-    check_noted_set(rt, array, page, cells, note);
+    assert_eq!(rt; array.wear(page), Ok(wear), "page {page}");
+    check_set(rt, array, page, cells);
 }
 
 // The counts, and that looks and marks of the first page and of the first cell past them are refused.
@@ -61,6 +42,7 @@ pub fn check_counts<A: CellArray>(rt: &impl Abort, array: &mut A, pages: usize, 
         assert_eq!(rt; array.look(pages, cell), Err(fault));
         assert_eq!(rt; array.mark(pages, cell), Err(fault));
     }
+    // A loop, since each turn asserts something of its page.
     for page in 0..pages {
         let fault = DeviceFault::NoCell { page, cell: width };
         assert_eq!(rt; array.look(page, width), Err(fault));
@@ -92,6 +74,7 @@ pub fn check_wears_out<A: Erasable>(
     cell: usize,
 ) -> Result<(), Fail> {
     array.mark(1, cell)?;
+    // A loop, since each turn asserts something of the wear so far.
     for worn in 0..3 {
         array.mark(0, cell)?;
         check_page(rt, array, 0, &[cell], (worn, 3));
@@ -100,14 +83,8 @@ pub fn check_wears_out<A: Erasable>(
     }
     array.mark(0, cell)?;
     assert_eq!(rt; array.erase(0), Err(DeviceFault::Worn { page: 0 }));
-    check_noted_page(
-        rt,
-        array,
-        0,
-        &[cell],
-        (3, 3),
-        ": a refused erase alters nothing",
-    );
-    check_noted_page(rt, array, 1, &[cell], (0, 3), ": the other page");
+    // the refused erase has altered nothing, nor has any erase in the other page
+    check_page(rt, array, 0, &[cell], (3, 3));
+    check_page(rt, array, 1, &[cell], (0, 3));
     Ok(())
 }

@@ -1,12 +1,14 @@
 // The check of an image: each row at its bound, and which of two rows comes first.
 // Small images are written out whole; those at the bounds of the counts are made from them.
+ghost use Rattle.std.specs.Prelude.{◌<◌};
+
 use crate::sample_images::{FLASH, FUSE, unset_image};
 use images::fault::ImageFault;
 use images::format::Format;
 use std::process::Abort;
 use std::test::Fail;
 
-// The pages and the width of a good image, or why it is refused.
+// The pages and the width of a good image, or why it is refused. They are a pair, which keeps the tables short.
 fn outcome(format: Format, image: &[u8]) -> Result<(usize, usize), ImageFault> {
     let layout = format.check(image)?;
     Ok((layout.pages, layout.width))
@@ -104,6 +106,7 @@ fn counts_at_their_bounds(rt: HostRuntime) -> Result<(), Fail> {
 
 // Each cut of a good image is short, and the whole is good.
 fn check_cuts(rt: &impl Abort, format: Format, image: &[u8]) {
+    // A loop, since each turn asserts something of its length.
     for length in 0..image.len() {
         assert_eq!(rt;
             outcome(format, &image[..length]),
@@ -120,9 +123,10 @@ fn only_cuts_of_a_good_image_are_short(rt: HostRuntime) {
     check_cuts(&rt, Format::Fuse, &FUSE);
 }
 
-// The last byte of each page has four cells and four unused bits.
-#[test]
-fn only_unused_bits_are_stray(rt: HostRuntime) {
+// Bits of the last byte of a page are turned over, one at a time: the byte has four cells and four unused bits.
+fn check_last_byte<const N: usize>(rt: &impl Abort, format: Format, image: [u8; N], at: usize)
+    requires { at < N }
+{
     let cases = [
         (0x01, Ok((2, 12))),
         (0x08, Ok((2, 12))),
@@ -132,25 +136,20 @@ fn only_unused_bits_are_stray(rt: HostRuntime) {
         (0x80, Err(ImageFault::Stray)),
     ];
     for (bit, expected) in cases {
-        let mut image = FLASH;
-        image[12] ^= bit;
+        let mut turned = image;
+        turned[at] ^= bit;
         assert_eq!(rt;
-            outcome(Format::Flash, &image),
+            outcome(format, &turned),
             expected,
-            "flash, first page"
+            "{format:?}, byte {at}, bit {bit:#x}"
         );
-        image = FLASH;
-        image[14] ^= bit;
-        assert_eq!(rt;
-            outcome(Format::Flash, &image),
-            expected,
-            "flash, last page"
-        );
-        let mut image = FUSE;
-        image[4] ^= bit;
-        assert_eq!(rt; outcome(Format::Fuse, &image), expected, "fuse, first page");
-        image = FUSE;
-        image[6] ^= bit;
-        assert_eq!(rt; outcome(Format::Fuse, &image), expected, "fuse, last page");
     }
+}
+
+#[test]
+fn only_unused_bits_are_stray(rt: HostRuntime) {
+    check_last_byte(&rt, Format::Flash, FLASH, 12);
+    check_last_byte(&rt, Format::Flash, FLASH, 14);
+    check_last_byte(&rt, Format::Fuse, FUSE, 4);
+    check_last_byte(&rt, Format::Fuse, FUSE, 6);
 }

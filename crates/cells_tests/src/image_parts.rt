@@ -19,6 +19,22 @@ fn mark<K: Kind + Drop, const N: usize>(
     (image, answer)
 }
 
+// A mark makes this of the image, and the same mark again alters nothing.
+fn check_mark<K: Kind + Drop, const N: usize>(
+    rt: &impl Abort,
+    image: [u8; N],
+    page: usize,
+    cell: usize,
+    expected: [u8; N],
+) {
+    assert_eq!(rt; mark::<K, N>(image, page, cell), (expected, Ok(())));
+    assert_eq!(rt;
+        mark::<K, N>(expected, page, cell),
+        (expected, Ok(())),
+        "marked again"
+    );
+}
+
 // The image after an erase, and the answer.
 fn flash_erase(mut image: [u8; 15], page: usize) -> ([u8; 15], Result<(), DeviceFault>) {
     let answer = FlashPart::over(&mut image).erase(page);
@@ -61,12 +77,7 @@ fn a_flash_mark_alters_one_bit(rt: HostRuntime) {
     for (page, cell, pages) in cases {
         let mut expected = FLASH;
         expected[11..15].copy_from_slice(&pages);
-        assert_eq!(rt; mark::<Flash, 15>(FLASH, page, cell), (expected, Ok(())));
-        assert_eq!(rt;
-            mark::<Flash, 15>(expected, page, cell),
-            (expected, Ok(())),
-            "marked again"
-        );
+        check_mark::<Flash, 15>(&rt, FLASH, page, cell, expected);
     }
 }
 
@@ -130,12 +141,7 @@ fn a_fuse_mark_alters_one_bit(rt: HostRuntime) {
         (1, 11, [2, 0, 12, 0x01, 0x02, 0x0c, 0x08]),
     ];
     for (page, cell, expected) in cases {
-        assert_eq!(rt; mark::<Fuse, 7>(FUSE, page, cell), (expected, Ok(())));
-        assert_eq!(rt;
-            mark::<Fuse, 7>(expected, page, cell),
-            (expected, Ok(())),
-            "marked again"
-        );
+        check_mark::<Fuse, 7>(&rt, FUSE, page, cell, expected);
     }
 }
 

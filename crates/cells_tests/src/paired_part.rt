@@ -11,7 +11,7 @@ use images::fuse::FuseBank;
 use std::process::Abort;
 use std::test::Fail;
 
-// Over two pages of 12 cells, as FUSE has them: marks of cell 3 of page 0 and of cell 5 of page 1, which is set already.
+// Over two pages of 12 cells, as FUSE has them: marks of cell 3 of page 0 and cell 5 of page 1, which is set already.
 fn mark_pairs<A: CellArray + Drop>(rt: &impl Abort, below: A) -> Result<(), Fail> {
     let mut paired = Paired::new(below);
     check_set(rt, &paired, 0, &[0, 4]);

@@ -77,7 +77,9 @@ factor_clean (Vectors g) small =
 
 group_clean : (g : GroupWord) → SmallGroup g → Lacks 32 (group_spelt g) × (length (group_spelt g) ≤ 21)
 group_clean (One f) small = let one = factor_clean f small in (one.0, (let few = one.1 in omega arith))
-group_clean (Two f g) small =
+group_clean (Two p) small =
+    let f = p.left in
+    let g = p.right in
     let one = factor_clean f small.0 in
     let two = factor_clean g small.1 in
     let few = one.1 in

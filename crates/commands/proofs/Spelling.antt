@@ -4,6 +4,7 @@ use Rattle.commands.specs.declared.factor.Factor.{Factor}
 use Rattle.commands.specs.declared.factor.Factor.TheVariants.{Integers, Vectors}
 use Rattle.commands.specs.declared.group_word.GroupWord.{GroupWord}
 use Rattle.commands.specs.declared.group_word.GroupWord.TheVariants.{One, Two}
+use Rattle.group.specs.declared.product.Product.{Product}
 use Rattle.scan.specs.Pieces.{cut, joined, left, Lacks}
 use Rattle.scan.proofs.Cutting.{lacks_more, cut_alone, cut_first, joined_cut}
 use Rattle.scan.proofs.Spelling.{decimal_lacks}
@@ -12,7 +13,7 @@ use Rattle.commands.specs.Groups.{factor_spelt, group_spelt, SmallFactor, SmallG
 -- the pieces of a group word are the spellings of its factors
 abbrev factor_pieces : GroupWord → List (List ℕ)
 factor_pieces (One f) = factor_spelt f ∷ []
-factor_pieces (Two f g) = factor_spelt f ∷ (factor_spelt g ∷ [])
+factor_pieces (Two p) = factor_spelt p.left ∷ (factor_spelt p.right ∷ [])
 
 factor_lacks : (f : Factor) → SmallFactor f → Lacks 46 (factor_spelt f)
 factor_lacks (Integers g) small = lacks_more 46 90 (decimal g.modulus) (λ e. omega arith) (decimal_lacks 46 g.modulus (omega arith) (λ d. omega arith))
@@ -20,9 +21,9 @@ factor_lacks (Vectors g) small = lacks_more 46 88 (decimal g.bits) (λ e. omega 
 
 group_pieces : (g : GroupWord) → SmallGroup g → cut 46 (group_spelt g) ≡ factor_pieces g
 group_pieces (One f) small = cut_alone 46 (factor_spelt f) (factor_lacks f small)
-group_pieces (Two f g) small =
-    cut_first 46 (factor_spelt f) (factor_spelt g) (factor_lacks f small.0)
-    ∙ ap (λ ps. factor_spelt f ∷ ps) (cut_alone 46 (factor_spelt g) (factor_lacks g small.1))
+group_pieces (Two p) small =
+    cut_first 46 (factor_spelt p.left) (factor_spelt p.right) (factor_lacks p.left small.0)
+    ∙ ap (λ ps. factor_spelt p.left ∷ ps) (cut_alone 46 (factor_spelt p.right) (factor_lacks p.right small.1))
 
 module _ (w p : List ℕ) (ps : List (List ℕ)) (first : cut 46 w ≡ p ∷ ps) where
   -- one piece, or two, that spell factors
@@ -31,12 +32,12 @@ module _ (w p : List ℕ) (ps : List (List ℕ)) (first : cut 46 w ≡ p ∷ ps)
   spells_one f none spells =
       (spells.0, sym (joined_cut 46 w) ∙ ap (joined 46) (first ∙ ap (λ qs. p ∷ qs) none) ∙ spells.1)
 
-  pub spells_two : (f g : Factor) (q : List ℕ) → ps ≡ q ∷ [] → SpellsFactor p f → SpellsFactor q g → SpellsGroup w (Two f g)
+  pub spells_two : (pair : Product Factor Factor) (q : List ℕ) → ps ≡ q ∷ [] → SpellsFactor p pair.left → SpellsFactor q pair.right → SpellsGroup w (Two pair)
   unfolding joined
-  spells_two f g q second left right = (
+  spells_two pair q second left right = (
     (left.0, right.0),
     sym (joined_cut 46 w) ∙ ap (joined 46) (first ∙ ap (λ qs. p ∷ qs) second) ∙ ap (λ xs. xs ++ (46 ∷ q)) left.1
-        ∙ ap (λ xs. factor_spelt f ++ (46 ∷ xs)) right.1,
+        ∙ ap (λ xs. factor_spelt pair.left ++ (46 ∷ xs)) right.1,
   )
 
   same_pieces : (g : GroupWord) → SpellsGroup w g → p ∷ ps ≡ factor_pieces g
@@ -45,14 +46,14 @@ module _ (w p : List ℕ) (ps : List (List ℕ)) (first : cut 46 w ≡ p ∷ ps)
   -- a first piece that is no factor
   pub no_first : ((f : Factor) → SpellsFactor p f → ⊥) → (g : GroupWord) → SpellsGroup w g → ⊥
   no_first none (One f) spells = let same = same_pieces (One f) spells in none f (spells.0, cc)
-  no_first none (Two f g) spells = let same = same_pieces (Two f g) spells in none f (spells.0.0, cc)
+  no_first none (Two pair) spells = let same = same_pieces (Two pair) spells in none pair.left (spells.0.0, cc)
 
   -- a second one that is none
   pub no_second : (q : List ℕ) (qs : List (List ℕ)) → ps ≡ q ∷ qs → ((f : Factor) → SpellsFactor q f → ⊥) → (g : GroupWord) → SpellsGroup w g → ⊥
   no_second q qs second none (One f) spells = let same = same_pieces (One f) spells in let z : ◌≡◌ {A = ℕ} 0 1 = cc in omega arith
-  no_second q qs second none (Two f g) spells = let same = same_pieces (Two f g) spells in none g (spells.0.1, cc)
+  no_second q qs second none (Two pair) spells = let same = same_pieces (Two pair) spells in none pair.right (spells.0.1, cc)
 
   -- a third one
   pub no_third : (q r : List ℕ) (rs : List (List ℕ)) → ps ≡ q ∷ (r ∷ rs) → (g : GroupWord) → SpellsGroup w g → ⊥
   no_third q r rs more (One f) spells = let same = same_pieces (One f) spells in let z : ◌≡◌ {A = ℕ} 0 1 = cc in omega arith
-  no_third q r rs more (Two f g) spells = let same = same_pieces (Two f g) spells in let z : ◌≡◌ {A = ℕ} 0 1 = cc in omega arith
+  no_third q r rs more (Two pair) spells = let same = same_pieces (Two pair) spells in let z : ◌≡◌ {A = ℕ} 0 1 = cc in omega arith

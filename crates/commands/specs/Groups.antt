@@ -16,7 +16,7 @@ factor_group (Vectors g) = vectors g.bits
 
 abbrev pub word_group : GroupWord → Group
 word_group (One f) = factor_group f
-word_group (Two f g) = product (factor_group f) (factor_group g)
+word_group (Two p) = product (factor_group p.left) (factor_group p.right)
 
 -- a factor is spelt Z or X and its parameter, and two are joined by a full stop
 abbrev pub factor_spelt : Factor → List ℕ
@@ -25,7 +25,7 @@ factor_spelt (Vectors g) = 88 ∷ decimal g.bits
 
 abbrev pub group_spelt : GroupWord → List ℕ
 group_spelt (One f) = factor_spelt f
-group_spelt (Two f g) = factor_spelt f ++ (46 ∷ factor_spelt g)
+group_spelt (Two p) = factor_spelt p.left ++ (46 ∷ factor_spelt p.right)
 
 -- parameters have at most nine digits
 abbrev pub SmallFactor : Factor → Type 0
@@ -34,7 +34,7 @@ SmallFactor (Vectors g) = g.bits < 1000000000
 
 abbrev pub SmallGroup : GroupWord → Type 0
 SmallGroup (One f) = SmallFactor f
-SmallGroup (Two f g) = SmallFactor f × SmallFactor g
+SmallGroup (Two p) = SmallFactor p.left × SmallFactor p.right
 
 -- the bytes w spell a factor, or a group
 abbrev pub SpellsFactor : List ℕ → Factor → Type 0

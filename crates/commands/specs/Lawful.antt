@@ -15,4 +15,4 @@ factor_lawful (Vectors g) = vectors_lawful g.bits
 
 pub word_lawful : (g : GroupWord) → Lawful (word_group g)
 word_lawful (One f) = factor_lawful f
-word_lawful (Two f g) = product_lawful (factor_lawful f) (factor_lawful g)
+word_lawful (Two p) = product_lawful (factor_lawful p.left) (factor_lawful p.right)

@@ -31,7 +31,8 @@ impl Factor {
     }
 }
 
-// The kinds are closed by the form of a group word, so a match picks the group, and no `dyn`.
+// The kinds are closed by the form of a group word, so a match picks the group, and no `dyn`. One enum over any two
+// groups would serve for group words too, and lose the names of the kinds.
 impl Group for Factor {
     ghost meaning = { factor_group };
 

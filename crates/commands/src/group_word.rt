@@ -11,8 +11,7 @@ use scan::pieces::Pieces;
 #[derive(Clone, Copy)]
 pub enum GroupWord {
     One(Factor),
-    // The factors, and no `Product` of them: each method makes its own, so that an edit can turn one use alone.
-    Two(Factor, Factor),
+    Two(Product<Factor, Factor>),
 }
 
 impl GroupWord {
@@ -24,12 +23,16 @@ impl GroupWord {
         let first = Factor::read(pieces.next()?.bytes)?;
         match (pieces.next(), pieces.next()) {
             (None, _) => Some(GroupWord::One(first)),
-            (Some(second), None) => Some(GroupWord::Two(first, Factor::read(second.bytes)?)),
+            (Some(piece), None) => {
+                let second = Factor::read(piece.bytes)?;
+                Some(GroupWord::Two(Product::new(first, second)))
+            }
             _ => None,
         }
     }
 }
 
+// A match picks the group, as for factors.
 impl Group for GroupWord {
     ghost meaning = { word_group };
 
@@ -38,21 +41,21 @@ impl Group for GroupWord {
     fn order(&self) -> u32 {
         match self {
             GroupWord::One(factor) => factor.order(),
-            GroupWord::Two(left, right) => Product::new(*left, *right).order(),
+            GroupWord::Two(product) => product.order(),
         }
     }
 
     fn sum(&self, a: u32, b: u32) -> u32 {
         match self {
             GroupWord::One(factor) => factor.sum(a, b),
-            GroupWord::Two(left, right) => Product::new(*left, *right).sum(a, b),
+            GroupWord::Two(product) => product.sum(a, b),
         }
     }
 
     fn opposite(&self, a: u32) -> u32 {
         match self {
             GroupWord::One(factor) => factor.opposite(a),
-            GroupWord::Two(left, right) => Product::new(*left, *right).opposite(a),
+            GroupWord::Two(product) => product.opposite(a),
         }
     }
 }

@@ -29,6 +29,15 @@ pub struct Number {
     pub column: usize,
 }
 
+impl Number {
+    // Its value as an index. A 32-bit number has no `From` into one; that the cast loses nothing is proved.
+    pub fn index(self) -> usize
+        ensures { result ≡ self.value }
+    {
+        self.value as usize
+    }
+}
+
 impl<'a> Word<'a> {
     // The number that the word spells, with its column.
     pub fn number(self) -> Result<Number, Refusal>
@@ -49,7 +58,8 @@ impl<'a> Word<'a> {
     }
 }
 
-// The words of a line that are still to be taken, and the column past the line.
+// The words of a line that are still to be taken, and the column past the line. They are no one type with the lines of
+// a script: a word has a column, and so has the end of its line; a line has a number, and empty lines are passed over.
 #[derive(Drop)]
 pub(crate) struct Words<'a> {
     pieces: Pieces<'a>,
@@ -75,15 +85,15 @@ impl<'a> Words<'a> {
         }
     }
 
-    // That there is no word. Each count has a function of its own: the borrow checker does not cover an array of borrowed
-    // words in a result.
+    // That there is no word. Each count has a function of its own: the borrow checker does not cover an array of
+    // borrowed words in a result.
     pub(crate) fn none(mut self) -> Result<(), Refusal>
         ensures { Reading (count_spot (words_left self.entry) 0 self.entry.past ∷ []) (λ _. words_left self.entry ≡ []) result }
     {
-        match self.next() {
-            None => Ok(()),
-            Some(_) => Err(LineFault::Count.at(self.past)),
+        if self.next().is_some() {
+            return Err(LineFault::Count.at(self.past));
         }
+        Ok(())
     }
 
     // The only word.

@@ -1,3 +1,5 @@
 pub mod Code
 pub mod CellSets
+pub mod Codes
 pub mod Plans
+pub mod Searches

@@ -1,5 +1,5 @@
 -- What the planner answers, and the table that it works with. Assumes nothing.
-use Rattle.std.specs.Prelude.{◌≡◌, ℕ, ◌+◌, ◌-◌, ◌*◌, ◌%◌, ◌<◌, ◌≤◌, min, Bool, true, cond, Some, None, Option, ◌==◌, ◌≢◌, slice_index}
+use Rattle.std.specs.Prelude.{◌≡◌, ℕ, ◌+◌, ◌-◌, ◌%◌, ◌<◌, ◌≤◌, min, Bool, true, cond, Some, None, Option, ◌==◌, ◌≢◌, slice_index, slice_index_or, []}
 use Rattle.group.specs.Group.{Group, In, step}
 use Rattle.cells.specs.Sets.{Cellset}
 use Rattle.coset.specs.Code.{Code, size_of, Reaches, Unreachable, Plan}
@@ -25,7 +25,7 @@ label_of g i = 1 + i % (g.order - 1)
 
 -- the entry of a table for cell i and element s
 abbrev pub fewest_at : Table → ℕ → ℕ → ℕ
-fewest_at table i s = slice_index table.fewest (i * 64 + s)
+fewest_at table i s = slice_index (slice_index_or table.fewest i []) s
 
 -- The entry of a cell for the element s, by the row of the next cell: the cell is left out, or taken if that is better
 -- and it is free.

@@ -6,7 +6,8 @@ ghost use Rattle.coset.specs.CellSets.{members_of};
 // the most cells that a record has
 pub const MAX_CELLS: usize = 63;
 
-#[derive(Clone, Copy, PartialEq, Debug)]
+// Memory of a fixed size, since a put may not fail for want of it.
+#[derive(Clone, Copy, Default, PartialEq, Debug)]
 pub struct CellSet {
     members: [bool; MAX_CELLS],
 }

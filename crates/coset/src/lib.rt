@@ -3,7 +3,7 @@
 #![tactic(auto)]
 
 pub mod cellset;
-pub mod labels;
+pub mod code;
 pub mod planner;
 #[cfg(test)]
 mod tests;

@@ -3,26 +3,25 @@
 ghost use Rattle.std.specs.Prelude.{◌≡◌, ℕ, ◌+◌, ◌-◌, ◌<◌, ◌≤◌};
 ghost use Rattle.group.specs.Group.{In, Usable};
 ghost use Rattle.coset.specs.CellSets.{members_of};
-ghost use Rattle.coset.specs.Code.{code, Plan};
+ghost use Rattle.coset.specs.Code.{Plan};
 ghost use Rattle.coset.specs.Plans.{Plans, First, Puts, Fills, Filled, fewest_at};
 
 use crate::cellset::{CellSet, MAX_CELLS};
-use crate::labels::label;
+use crate::code::Code;
 use group::interface::Group;
 
 // The entry of an element that no cells sum to. The rules have a table of bytes, so it is no `Option`.
 const UNREACHED: u8 = 255;
 
-// A row for each of at most 63 cells and one past the last, with an entry for each of at most 64 elements.
-const ROW: usize = 64;
+// a row for each of at most 63 cells and one past the last, and an entry for each of at most 64 elements
+const ROWS: usize = 64;
 
-const ENTRIES: usize = ROW * ROW;
+const ELEMENTS: usize = 64;
 
-// Entry 64 i + s: the fewest of the free cells from cell i on that sum to s. The rules have one table of 4,096 entries,
-// and so it is no array of rows.
+// Entry s of row i: the fewest of the free cells from cell i on that sum to s. The rules give the table this size.
 #[derive(Clone, Copy)]
 struct Table {
-    fewest: [u8; ENTRIES],
+    fewest: [[u8; ELEMENTS]; ROWS],
 }
 
 impl Table {
@@ -30,7 +29,7 @@ impl Table {
         ensures { (i s : ℕ) → i < 64 → s < 64 → fewest_at result i s ≡ 255 }
     {
         Table {
-            fewest: [UNREACHED; ENTRIES],
+            fewest: [[UNREACHED; ELEMENTS]; ROWS],
         }
     }
 
@@ -40,7 +39,7 @@ impl Table {
         requires s_bound { s < 64 }
         ensures { result ≡ fewest_at self.now cell s }
     {
-        self.fewest[cell * ROW + s as usize]
+        self.fewest[cell][s as usize]
     }
 
     fn put(&mut self, cell: usize, s: u32, count: u8)
@@ -48,45 +47,53 @@ impl Table {
         requires s_bound { s < 64 }
         ensures { Puts cell s count self.old self.new }
     {
-        self.fewest[cell * ROW + s as usize] = count;
+        let row = &mut self.fewest[cell];
+        row[s as usize] = count;
     }
 }
 
-// A set of the fewest free cells of n that sum to `step`, or none where no free cells do.
-pub fn plan<G: Group>(group: &G, n: usize, free: &CellSet, step: u32) -> Option<CellSet>
-    ensures { Plans (code (G.Group.meaning group.now) n) (members_of free.now) step result }
-{
-    if step == 0 {
-        return Some(CellSet::empty());
+impl<G: Group> Code<G> {
+    ghost use Rattle.coset.specs.Codes.{code_of};
+
+    // A set of the fewest free cells that sum to `step`, or none where no free cells do.
+    pub fn plan(&self, free: &CellSet, step: u32) -> Option<CellSet>
+        ensures { Plans (code_of G.Group.meaning self.now) (members_of free.now) step result }
+    {
+        if step == 0 {
+            return Some(CellSet::empty());
+        }
+        if !self.group.has(step) {
+            return None;
+        }
+        let search = Search {
+            code: self,
+            cells: self.cells.min(MAX_CELLS),
+            free,
+        };
+        let table = search.table();
+        if table.get(0, step) == UNREACHED {
+            return None;
+        }
+        Some(search.walk(&table, step))
     }
-    if !group.has(step) {
-        return None;
-    }
-    let search = Search {
-        group,
-        cells: n.min(MAX_CELLS),
-        free,
-    };
-    let table = search.table();
-    if table.get(0, step) == UNREACHED {
-        return None;
-    }
-    Some(search.walk(&table, step))
 }
 
-// The cells of a record, which of them are free, and the usable group whose elements their labels are.
+// A code of a usable group, how many of its cells a plan can have, and which of them are free.
 #[derive(Drop)]
 struct Search<'a, G: Group> {
-    group: &'a G,
+    code: &'a Code<G>,
     cells: usize,
     free: &'a CellSet,
-    ghost usable: { Usable (G.Group.meaning group.now) },
+    ghost usable: { Usable (G.Group.meaning code.now.group) },
     ghost few: { cells ≤ 63 },
 }
 
 impl<G: Group> Search<'_, G> {
+    ghost use Rattle.coset.specs.Searches.{searched};
+
+    // A loop, since each row is filled from the one that was filled before it.
     fn table(&self) -> Table
-        ensures { Filled (code (G.Group.meaning self.now.group.now) self.now.cells) (members_of self.now.free.now) result 0 }
+        ensures { Filled (searched self.now) (members_of self.now.free.now) result 0 }
     {
         let mut table = Table::unreached();
         table.put(self.cells, 0, 0);
@@ -96,16 +103,17 @@ impl<G: Group> Search<'_, G> {
         table
     }
 
-    // The row of a cell, from that of the next: leaving the cell out, or taking it.
+    // The row of a cell, from that of the next: leaving the cell out, or taking it. A loop over the elements, which are
+    // numbers, and no values in memory to go over.
     fn fill_row(&self, table: &mut Table, cell: usize)
         requires { cell < self.now.cells }
-        ensures { Fills (G.Group.meaning self.now.group.now) (members_of self.now.free.now) cell (G.Group.meaning self.now.group.now).order table.old table.new }
+        ensures { Fills (G.Group.meaning self.now.code.now.group) (members_of self.now.free.now) cell (G.Group.meaning self.now.code.now.group).order table.old table.new }
     {
-        let opposite = self.group.opposite(label(self.group, cell));
+        let opposite = self.code.group.opposite(self.code.label(cell));
         let is_free = self.free.contains(cell);
-        for s in 0..self.group.order() {
+        for s in 0..self.code.group.order() {
             let left_out = table.get(cell + 1, s);
-            let rest = self.group.sum(s, opposite);
+            let rest = self.code.group.sum(s, opposite);
             let taken = table.get(cell + 1, rest).saturating_add(1);
             let best = if is_free {
                 left_out.min(taken)
@@ -116,18 +124,19 @@ impl<G: Group> Search<'_, G> {
         }
     }
 
-    // From the first cell on, a cell is taken wherever the fewest cells from it on can do with it.
+    // From the first cell on, a cell is taken wherever the fewest cells from it on can do with it. A loop, since each
+    // turn goes on from the set and the step that the one before left; a fold would carry the two as a pair.
     fn walk(&self, table: &Table, step: u32) -> CellSet
-        requires filled { Filled (code (G.Group.meaning self.now.group.now) self.now.cells) (members_of self.now.free.now) table.now 0 }
-        requires element { In (G.Group.meaning self.now.group.now) step }
+        requires filled { Filled (searched self.now) (members_of self.now.free.now) table.now 0 }
+        requires element { In (G.Group.meaning self.now.code.now.group) step }
         requires reached { fewest_at table.now 0 step < 255 }
-        ensures plan { Plan (code (G.Group.meaning self.now.group.now) self.now.cells) (members_of self.now.free.now) step (members_of result) }
-        ensures first { First (code (G.Group.meaning self.now.group.now) self.now.cells) (members_of self.now.free.now) step (members_of result) }
+        ensures plan { Plan (searched self.now) (members_of self.now.free.now) step (members_of result) }
+        ensures first { First (searched self.now) (members_of self.now.free.now) step (members_of result) }
     {
         let mut chosen = CellSet::empty();
         let mut rest = step;
         for cell in 0..self.cells {
-            let after = self.group.step(label(self.group, cell), rest);
+            let after = self.code.group.step(self.code.label(cell), rest);
             let taken = table.get(cell + 1, after).saturating_add(1);
             if self.free.contains(cell) && taken == table.get(cell, rest) {
                 chosen.insert(cell);

@@ -9,6 +9,8 @@ pub const MAX_ORDER: u32 = 64;
 // The order of an unusable group, which is a number by the rules, and so no `Option`.
 pub const UNUSABLE: u32 = 65;
 
+// Each kind asks by `has` itself whether it is given elements. One check for all kinds would call methods that take
+// elements alone, or else the integers divide by 0, and no public method here has a precondition.
 pub trait Group {
     // the order, the sum of each two elements and the opposite of each
     ghost meaning: { Self → GroupMeaning };

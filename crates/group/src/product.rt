@@ -8,8 +8,8 @@ use crate::interface::{Group, MAX_ORDER, UNUSABLE};
 
 #[derive(Clone, Copy, Drop)]
 pub struct Product<A, B> {
-    left: A,
-    right: B,
+    pub left: A,
+    pub right: B,
 }
 
 impl<A: Group, B: Group> Product<A, B> {

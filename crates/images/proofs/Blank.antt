@@ -1,5 +1,5 @@
 -- The bytes of a fresh flash image. Assumes nothing.
-use Rattle.std.proofs.Common.{◌≡◌, ℕ, ◌+◌, ◌-◌, ◌*◌, ◌/◌, ◌%◌, ◌^◌, ◌<◌, ◌≤◌, false, cond, ◌&&◌, ltb, ◌⊎◌, List, [], ◌∷◌, ◌++◌, map, length, take, replicate, is_ok, Ok, Result, sym, refl, ap, ◌∙◌, ap₂, inl, inr, arith}
+use Rattle.std.proofs.Common.{◌≡◌, ℕ, ◌+◌, ◌-◌, ◌*◌, ◌/◌, ◌%◌, ◌^◌, ◌<◌, ◌≤◌, false, cond, ◌&&◌, ltb, List, [], ◌∷◌, ◌++◌, map, length, take, replicate, is_ok, Ok, Result, sym, refl, ap, ◌∙◌, ap₂, inl, inr, arith}
 use native.Mathlib.Nat.{zero-div}
 use Rattle.std.specs.List.{range_with_len}
 use Rattle.std.proofs.lemmas.List.{append_assoc, length-append, take_all, ext_get_or, length-replicate, get_or-replicate}
@@ -55,17 +55,6 @@ module _ (P c : ℕ) where
         wear = λ p h. omega arith;
       } in
       record { bytes = e; accepted = rw e (written_served Flash (blank P c) ok); means = rw e (read_back Flash (blank P c) ok) }
-
-pub counts_pass : (P c : ℕ) → (P ≡ 0 → ⊥) → P ≤ 64 → (c ≡ 0 → ⊥) → c ≤ 1024 → Served (count_checks P c)
-counts_pass P c a b d e = (pages, (width, tt))
-  where
-    pages : ((P ≡ 0) ⊎ (64 < P)) → ⊥
-    pages (inl z) = a z
-    pages (inr h) = omega arith
-
-    width : ((c ≡ 0) ⊎ (1024 < c)) → ⊥
-    width (inl z) = d z
-    width (inr h) = omega arith
 
 -- a list made longer by one number, as `resize` leaves it
 pub resized :

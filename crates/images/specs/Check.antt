@@ -9,9 +9,16 @@ use Rattle.cells.specs.Rows.{Row, row, Refused, Served}
 use Rattle.images.specs.Faults.{image_number}
 use Rattle.images.specs.Image.{page_bytes, width_at, size, pages_of, width_of, count_of, cells_at, part_cells, decoded}
 
+-- the checks of a count of pages, and of a width, by themselves
+abbrev pub pages_rows : ℕ → List Row
+pages_rows P = row 11 ((P ≡ 0) ⊎ (64 < P)) ∷ []
+
+abbrev pub cells_rows : ℕ → List Row
+cells_rows c = row 12 ((c ≡ 0) ⊎ (1024 < c)) ∷ []
+
 -- the byte P
 abbrev pub first_rows : List ℕ → List Row
-first_rows xs = row 10 (length xs < 1) ∷ (row 11 ((pages_of xs ≡ 0) ⊎ (64 < pages_of xs)) ∷ [])
+first_rows xs = row 10 (length xs < 1) ∷ pages_rows (pages_of xs)
 
 -- wear count k, of which four bytes end before the place 5 + 4 k
 abbrev pub count_rows : List ℕ → ℕ → List Row
@@ -30,7 +37,7 @@ wear_rows Flash xs = counts_rows xs (pages_of xs)
 -- the two bytes c
 abbrev pub width_rows : Format → List ℕ → List Row
 width_rows f xs =
-    row 10 (length xs < width_at f (pages_of xs) + 2) ∷ (row 12 ((width_of f xs ≡ 0) ⊎ (1024 < width_of f xs)) ∷ [])
+    row 10 (length xs < width_at f (pages_of xs) + 2) ∷ cells_rows (width_of f xs)
 
 -- Page p has an unused bit, past its c cells, that reads as set.
 pub record Stray (f : Format) (P c : ℕ) (xs : List ℕ) (p : ℕ) : Type 0 where

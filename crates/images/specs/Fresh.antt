@@ -1,13 +1,13 @@
 -- A fresh flash image: no cell is set, and no page was ever erased. Assumes nothing.
-use Rattle.std.specs.Prelude.{◌≡◌, ℕ, ◌<◌, false, ◌⊎◌, List, [], ◌∷◌, Ok, Err, Result}
+use Rattle.std.specs.Prelude.{◌≡◌, ℕ, false, List, ◌++◌, Ok, Err, Result}
 use Rattle.images.specs.declared.fault.ImageError.{ImageError}
 use Rattle.images.specs.declared.fault.ImageError.TheVariants.{Image, NoMemory}
 use Rattle.images.specs.declared.format.Format.TheVariants.{Flash}
 use Rattle.cells.specs.Cells.{Cells, Alike}
-use Rattle.cells.specs.Rows.{Row, row, Refused, Served}
+use Rattle.cells.specs.Rows.{Row, Refused, Served}
 use Rattle.images.specs.Faults.{image_number}
 use Rattle.images.specs.Image.{limit_of, decoded}
-use Rattle.images.specs.Check.{image_rows}
+use Rattle.images.specs.Check.{pages_rows, cells_rows, image_rows}
 use Rattle.images.specs.Written.{written}
 
 -- P pages of c cells, none of them set, and no wear
@@ -16,7 +16,7 @@ blank P c = record { pages = P; width = c; set = λ p i. false; wear = λ p. 0; 
 
 -- the checks of the two counts, by the rows that they have in an image
 abbrev pub count_checks : ℕ → ℕ → List Row
-count_checks P c = row 11 ((P ≡ 0) ⊎ (64 < P)) ∷ (row 12 ((c ≡ 0) ⊎ (1024 < c)) ∷ [])
+count_checks P c = pages_rows P ++ cells_rows c
 
 -- xs is the fresh flash image of P pages of c cells: it is so written, the check accepts it, and it means that
 pub record FreshImage (P c : ℕ) (xs : List ℕ) : Type 0 where

@@ -11,7 +11,7 @@ use crate::format::Format;
 use crate::layout::Layout;
 
 impl Format {
-    // Any bytes at all are taken. What is accepted is exactly what some meaning within the bounds is written out as, and
+    // Any bytes at all are taken. What is accepted is exactly what some meaning in the bounds is written out as, and
     // it is read back as that meaning.
     pub fn check(self, image: &[u8]) -> Result<Layout, ImageFault>
         ensures checks { Checks self image.now result }
@@ -21,15 +21,16 @@ impl Format {
         self.read_layout(image)
     }
 
-    // The layout of an accepted image, and none at all of a refused one. The rules give that no pages and no width, so
-    // it is a layout too, and no `Option`.
+    // The layout of an accepted image. A refused one has by the rules no pages and no width, which is a layout too, and
+    // so this is no `Option`.
     pub(crate) fn layout_of(self, image: &[u8]) -> Layout
         ensures { ReadsAs self image.now result }
     {
-        self.check(image).unwrap_or(Layout { pages: 0, width: 0 })
+        self.check(image).unwrap_or(Layout::NONE)
     }
 
-    // The layout that the counts show, or the first row that holds.
+    // The layout that the counts show, or the first row that holds. By itself, so that `check` proves its three laws of
+    // the answer, and not of each of the steps.
     fn read_layout(self, image: &[u8]) -> Result<Layout, ImageFault>
         ensures { Checks self image.now result }
     {
@@ -63,15 +64,13 @@ impl Format {
         if image.len() < at + 2 {
             return Err(ImageFault::Short);
         }
-        let width = u16::from_be_bytes([image[at], image[at + 1]]);
-        if width == 0 || width > 1024 {
-            return Err(ImageFault::Width);
-        }
-        Ok(usize::from(width))
+        let width = usize::from(u16::from_be_bytes([image[at], image[at + 1]]));
+        Layout::check_width(width)?;
+        Ok(width)
     }
 
-    // The pages, and what follows them. The image goes beside its layout to three functions; a struct of both would hold
-    // a borrow for these alone.
+    // The pages, and what follows them. The format, the image and what is known of its layout go beside each other
+    // through these functions; a struct of them would hold a borrow and gain a field after each.
     fn check_body(self, image: &[u8], layout: Layout) -> Result<(), ImageFault>
         ensures { Passes (body_rows self layout.pages layout.width image.now) (λ _. Unit {0}) result }
     {
@@ -115,9 +114,7 @@ fn read_pages(image: &[u8]) -> Result<u8, ImageFault>
     let [pages, ..] = image else {
         return Err(ImageFault::Short);
     };
-    if *pages == 0 || *pages > 64 {
-        return Err(ImageFault::Pages);
-    }
+    Layout::check_pages(usize::from(*pages))?;
     Ok(*pages)
 }
 

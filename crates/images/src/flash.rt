@@ -38,10 +38,7 @@ impl Erasable for Part<'_, Flash> {
         ensures layout { self.new.layout ≡ self.old.layout }
         ensures bytes { ErasesBytes self.old.layout page self.old.image.now self.new.image.now result }
     {
-        let (worn, limit) = (*self).wear(page)?;
-        if worn >= limit {
-            return Err(DeviceFault::Worn { page });
-        }
+        let worn = (*self).check_erase(page)?;
         let at = self.layout.page_at(Format::Flash, page);
         let end = at + self.layout.page_bytes();
         fill(&mut self.image[at..end]);
@@ -59,7 +56,8 @@ pub(crate) fn count(image: &[u8], page: usize) -> u32
     u32::from_be_bytes([image[at], image[at + 1], image[at + 2], image[at + 3]])
 }
 
-// Every bit a one: no cell of the page is set, and no unused bit reads as set.
+// Every bit a one: no cell of the page is set, and no unused bit reads as set. By itself, so that what the library says
+// of `fill` need not be said of a part of an image.
 fn fill(page: &mut [u8])
     ensures { page.new ≡ replicate (length page.old) 255 }
 {

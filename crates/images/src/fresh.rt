@@ -5,7 +5,7 @@ ghost use Rattle.images.specs.declared.format.Format.TheVariants.{Flash};
 ghost use Rattle.images.specs.Fresh.{blank, Makes};
 ghost use Rattle.images.specs.Written.{written};
 
-use crate::fault::{ImageError, ImageFault};
+use crate::fault::ImageError;
 use crate::format::Format;
 use crate::layout::Layout;
 use std::alloc::{AllocError, Global};
@@ -14,13 +14,8 @@ use std::alloc::{AllocError, Global};
 pub fn fresh_flash(heap: Global, pages: usize, width: usize) -> Result<Vec<u8>, ImageError>
     ensures { Makes vec_items pages width result }
 {
-    // The check of an image reads these counts at two places, with other rows between, so each stands here once more.
-    if pages == 0 || pages > 64 {
-        return Err(ImageError::Image(ImageFault::Pages));
-    }
-    if width == 0 || width > 1024 {
-        return Err(ImageError::Image(ImageFault::Width));
-    }
+    Layout::check_pages(pages)?;
+    Layout::check_width(width)?;
     Ok(unset_image(heap, Layout { pages, width })?)
 }
 

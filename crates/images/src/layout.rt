@@ -2,10 +2,46 @@
 // Both are within the bounds of every cell array.
 ghost use Rattle.std.specs.Prelude.{◌≤◌};
 
-#[derive(Clone, Copy)]
+use crate::fault::ImageFault;
+
+// the most pages, and the most cells of a page
+pub const MAX_PAGES: usize = 64;
+
+pub const MAX_WIDTH: usize = 1024;
+
+#[derive(Clone, Copy, PartialEq, Debug)]
 pub struct Layout {
     pub pages: usize,
     pub width: usize,
     ghost few: { pages ≤ 64 },
     ghost narrow: { width ≤ 1024 },
+}
+
+impl Layout {
+    ghost use Rattle.std.specs.Prelude.{◌<◌};
+    ghost use Rattle.images.specs.Check.{pages_rows, cells_rows, Passes};
+
+    // no pages and no width
+    pub(crate) const NONE: Layout = Layout { pages: 0, width: 0 };
+
+    // Whether an image can have so many pages. The two counts have a check each, since an image has other rows between;
+    // one function for both would be handed the bound and the fault of each.
+    pub fn check_pages(pages: usize) -> Result<(), ImageFault>
+        ensures { Passes (pages_rows pages) (λ _. (0 < pages) × (pages ≤ 64)) result }
+    {
+        if pages == 0 || pages > MAX_PAGES {
+            return Err(ImageFault::Pages);
+        }
+        Ok(())
+    }
+
+    // Whether its pages can have so many cells.
+    pub fn check_width(width: usize) -> Result<(), ImageFault>
+        ensures { Passes (cells_rows width) (λ _. (0 < width) × (width ≤ 1024)) result }
+    {
+        if width == 0 || width > MAX_WIDTH {
+            return Err(ImageFault::Width);
+        }
+        Ok(())
+    }
 }

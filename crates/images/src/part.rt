@@ -61,6 +61,7 @@ impl<K: Kind> CellArray for Part<'_, K> {
 
     ghost bounded = { λ a. part_bounded K.FORMAT a.layout a.image.now };
 
+    // Each of these two hands its own question on to the layout.
     fn pages(&self) -> usize {
         self.layout.over(K::FORMAT, self.image).pages
     }

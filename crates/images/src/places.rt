@@ -1,6 +1,6 @@
 // Where the parts of an image lie, by its layout.
 // The bounds of a layout keep every place far below the largest number.
-ghost use Rattle.std.specs.Prelude.{◌≡◌, ◌<◌};
+ghost use Rattle.std.specs.Prelude.{◌≡◌, ◌≤◌};
 ghost use Rattle.images.specs.Image.{page_bytes, page_at, size, part_cells};
 
 use crate::format::Format;
@@ -18,18 +18,19 @@ impl Layout {
     pub fn size(self, format: Format) -> usize
         ensures { result ≡ size format self.pages self.width }
     {
-        3 + format.count_bytes() * self.pages + self.pages * self.page_bytes()
+        self.page_at(format, self.pages)
     }
 
-    // Where a page begins.
+    // Where a page begins, or past the last where the pages end.
     pub(crate) fn page_at(self, format: Format, page: usize) -> usize
-        requires { page < self.pages }
+        requires { page ≤ self.pages }
         ensures { result ≡ page_at format self.pages self.width page }
     {
         3 + format.count_bytes() * self.pages + page * self.page_bytes()
     }
 
-    // The layout that a part over these bytes has: none at all unless they suffice.
+    // This layout where the bytes suffice, and else no pages and no width, which a part has over bytes that its check
+    // refuses. So it is a layout too, and no `Option`.
     pub(crate) fn over(self, format: Format, image: &[u8]) -> Layout
         ensures pages { result.pages ≡ (part_cells format self image.now).pages }
         ensures width { result.width ≡ (part_cells format self image.now).width }
@@ -37,7 +38,7 @@ impl Layout {
         if self.size(format) <= image.len() {
             self
         } else {
-            Layout { pages: 0, width: 0 }
+            Layout::NONE
         }
     }
 }

@@ -18,6 +18,7 @@ fn main(rt: HostRuntime) -> io::Result<()> {
     }
 }
 
+// The words are this program's own, and each is printed once, so that no `Display` would be shorter.
 fn print_listing(rt: &HostRuntime, listing: &Listing) -> io::Result<()> {
     println!(rt; "pages {}", listing.pages())?;
     println!(rt; "width {}", listing.width)?;

@@ -3,32 +3,31 @@
 #![tactic(auto)]
 
 use coset::cellset::{CellSet, MAX_CELLS};
-use coset::labels::label_sum;
-use coset::planner::plan;
+use coset::code::Code;
 use group::integers::Integers;
 use group::interface::Group;
 use group::vectors::Vectors;
 use std::io;
 
-// A group with its name, and the number of cells to a record.
+// A code with its name.
 #[derive(Drop)]
-struct Code<'a, G> {
+struct Named<'a, G> {
     name: &'a str,
-    group: G,
-    cells: usize,
+    code: Code<G>,
 }
 
-impl<G: Group> Code<'_, G> {
-    // Plans for a record with these cells set, and prints what it would set.
+impl<G: Group> Named<'_, G> {
+    // Plans for a record with these cells set, and prints what it would set. The words here and below are this
+    // program's own, and each is printed once, so that no `Display` would be shorter.
     fn show(&self, rt: &HostRuntime, set: &[usize], target: u32) -> io::Result<()> {
         let mut held = CellSet::empty();
         for cell in set {
             held.insert(*cell);
         }
-        let value = label_sum(&self.group, self.cells, &held);
-        let step = self.group.step(value, target);
+        let value = self.code.label_sum(&held);
+        let step = self.code.group.step(value, target);
         print!(rt; "{}: from {value} to {target}, step {step}:", self.name)?;
-        match plan(&self.group, self.cells, &held.complement(), step) {
+        match self.code.plan(&held.complement(), step) {
             None => println!(rt; " full"),
             Some(plan) => print_cells(rt, &plan),
         }
@@ -44,26 +43,32 @@ fn print_cells(rt: &HostRuntime, set: &CellSet) -> io::Result<()> {
 }
 
 fn main(rt: HostRuntime) -> io::Result<()> {
-    let z7 = Code {
+    let z7 = Named {
         name: "Z7, 6 cells",
-        group: Integers::new(7),
-        cells: 6,
+        code: Code {
+            group: Integers::new(7),
+            cells: 6,
+        },
     };
     z7.show(&rt, &[], 3)?;
     z7.show(&rt, &[2], 6)?;
     z7.show(&rt, &[3, 4, 5], 0)?;
     z7.show(&rt, &[0, 1, 2, 3, 4, 5], 1)?;
     z7.show(&rt, &[0, 1, 2, 3, 4, 5], 0)?;
-    let x2 = Code {
+    let x2 = Named {
         name: "X2, 3 cells",
-        group: Vectors::new(2),
-        cells: 3,
+        code: Code {
+            group: Vectors::new(2),
+            cells: 3,
+        },
     };
     x2.show(&rt, &[0], 0)?;
-    let z4 = Code {
+    let z4 = Named {
         name: "Z4, 1 cell",
-        group: Integers::new(4),
-        cells: 1,
+        code: Code {
+            group: Integers::new(4),
+            cells: 1,
+        },
     };
     z4.show(&rt, &[], 2)?;
     z4.show(&rt, &[], 1)

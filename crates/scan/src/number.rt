@@ -19,7 +19,8 @@ pub fn read_number(word: &[u8]) -> Option<u32>
     }
 }
 
-// The number that digits write, or none where a byte is no digit.
+// The number that digits write, or none where a byte is no digit. A loop, by whose invariant nothing overflows; the
+// closure of a fold would not know it.
 fn read_digits(digits: &[u8]) -> Option<u32>
     requires { length digits.now ≤ 9 }
     ensures { AddsUp digits.now result }

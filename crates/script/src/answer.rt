@@ -1,10 +1,11 @@
 // One line after the head: its order is read, its calls are made, and the reply is what they answered.
 // A refused line makes no call.
-ghost use Rattle.std.specs.Prelude.{◌≡◌, true, false, MatchResult, IsOkAnd};
+ghost use Rattle.std.specs.Prelude.{◌≡◌, Decides, MatchResult, IsOkAnd};
 ghost use Rattle.coset.specs.Code.{code};
 ghost use Rattle.calls.specs.Calls.{state_of};
 ghost use Rattle.calls.specs.Promise.{RefusedFull};
-ghost use Rattle.store.specs.Keeps.{Keeps, code_of, state};
+ghost use Rattle.coset.specs.Codes.{code_of};
+ghost use Rattle.store.specs.Keeps.{Keeps, state};
 ghost use Rattle.script.specs.Tells.{refused, OrderTells, LineTells, Course, spoken};
 
 use crate::fault::{OrderPlace, ScriptFault};
@@ -16,54 +17,55 @@ use commands::command::Order;
 use group::interface::Group;
 use store::store::Store;
 
-// Reads a line, and carries its order out.
+// Reads a line, and carries its order out. The store and the line go on beside each other to two functions; a struct of
+// both would hold a borrow for these alone.
 pub(crate) fn answer_line<G: Group, A: Erasable>(store: &mut Store<G, A>, line: Line) -> Reply
     ensures keeps { Keeps A.CellArray.held A.CellArray.intact store.old store.new }
-    ensures course { Course (code_of G.Group.meaning store.old) (λ h. LineTells line.entry.number line.entry.bytes.now (state A.CellArray.cells store.old) h result) (state A.CellArray.cells store.old) (state A.CellArray.cells store.new) }
+    ensures course { Course (code_of G.Group.meaning store.old.code) (λ h. LineTells line.entry.number line.entry.bytes.now (state A.CellArray.cells store.old) h result) (state A.CellArray.cells store.old) (state A.CellArray.cells store.new) }
 {
     obey(store, line).unwrap_or_else(|fault| Reply::Refused { fault })
 }
 
 fn obey<G: Group, A: Erasable>(store: &mut Store<G, A>, line: Line) -> Result<Reply, ScriptFault>
     ensures keeps { Keeps A.CellArray.held A.CellArray.intact store.old store.new }
-    ensures course { Course (code_of G.Group.meaning store.old) (λ h. LineTells line.entry.number line.entry.bytes.now (state A.CellArray.cells store.old) h (spoken result)) (state A.CellArray.cells store.old) (state A.CellArray.cells store.new) }
+    ensures course { Course (code_of G.Group.meaning store.old.code) (λ h. LineTells line.entry.number line.entry.bytes.now (state A.CellArray.cells store.old) h (spoken result)) (state A.CellArray.cells store.old) (state A.CellArray.cells store.new) }
 {
     let order = Order::read(line.bytes).located_at(line.number)?;
     carry_out(store, line.number, order)
 }
 
-// Makes the calls of an order. A 32-bit number has no `From` into an index; that each cast loses nothing is proved.
+// Makes the calls of an order.
 fn carry_out<G: Group, A: Erasable>(
     store: &mut Store<G, A>,
     line: usize,
     order: Order,
 ) -> Result<Reply, ScriptFault>
     ensures keeps { Keeps A.CellArray.held A.CellArray.intact store.old store.new }
-    ensures course { Course (code_of G.Group.meaning store.old) (λ h. OrderTells line order (state A.CellArray.cells store.old) h (spoken result)) (state A.CellArray.cells store.old) (state A.CellArray.cells store.new) }
+    ensures course { Course (code_of G.Group.meaning store.old.code) (λ h. OrderTells line order (state A.CellArray.cells store.old) h (spoken result)) (state A.CellArray.cells store.old) (state A.CellArray.cells store.new) }
 {
     match order {
         Order::Put { record, value } => {
-            let answer = store.put(record.value as usize, value.value);
+            let answer = store.put(record.index(), value.value);
             let place = OrderPlace::of(line, record, value);
             replied(answer, place, |cells| Reply::Wrote { cells })
         }
         Order::Renew { record, value } => {
-            let answer = store.renew(record.value as usize, value.value);
+            let answer = store.renew(record.index(), value.value);
             let place = OrderPlace::of(line, record, value);
             replied(answer, place, |cells| Reply::Renewed { cells })
         }
         Order::Save { record, value } => {
             let place = OrderPlace::of(line, record, value);
-            let answer = store.put(record.value as usize, value.value);
+            let answer = store.put(record.index(), value.value);
             if is_full(answer) {
-                let again = store.renew(record.value as usize, value.value);
+                let again = store.renew(record.index(), value.value);
                 replied(again, place, |cells| Reply::Renewed { cells })
             } else {
                 replied(answer, place, |cells| Reply::Wrote { cells })
             }
         }
         Order::Get { record } => {
-            let answer = store.get(record.value as usize);
+            let answer = store.get(record.index());
             let place = OrderPlace::of_get(line, record);
             replied(answer, place, |value| Reply::Holds { value })
         }
@@ -75,8 +77,7 @@ fn carry_out<G: Group, A: Erasable>(
 
 // Whether a put was refused as full.
 fn is_full(answer: Result<u32, StoreFault>) -> bool
-    ensures full { result ≡ true → RefusedFull answer }
-    ensures other { result ≡ false → RefusedFull answer → ⊥ }
+    ensures { Decides result (RefusedFull answer) }
 {
     matches!(answer, Err(StoreFault::Full { .. }))
 }

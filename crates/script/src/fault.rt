@@ -134,7 +134,8 @@ impl From<(OrderPlace, StoreFault)> for ScriptFault {
     }
 }
 
-// Why a script ends at its head: a refusal, or want of memory.
+// Why a script ends at its head: a refusal, or want of memory. It has the shape of `ImageError`, but is no instance of
+// an enum of that crate: for a type of another crate this one could not have the conversions below.
 #[derive(Clone, Copy)]
 pub(crate) enum Stop {
     Fault(ScriptFault),

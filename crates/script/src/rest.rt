@@ -11,30 +11,32 @@ use crate::answer::answer_line;
 use crate::lines::Lines;
 use crate::reply::Reply;
 use cells::array::{CellArray, Erasable};
+use coset::code::Code;
 use group::interface::Group;
 use std::alloc::{AllocError, Global};
 use store::store::Store;
 
-// Makes a store over the array, and answers the lines with it.
+// Makes a store over the array, and answers the lines with it. It stands here, over any array: where it was tried in
+// place over the part itself, which has a ghost field, the borrow checker does not cover the store's type yet.
 pub(crate) fn answer_rest<G: Group + Drop, A: Erasable>(
     heap: Global,
-    group: G,
+    code: Code<G>,
     array: &mut A,
-    n: usize,
     lines: Lines,
 ) -> Result<Vec<Reply>, AllocError>
-    ensures { IfOk result (λ v. Answered (G.Group.meaning group) n (state_of (A.CellArray.cells array.old) blank) (lines_left lines.entry) v.items) }
+    ensures { IfOk result (λ v. Answered (G.Group.meaning code.group) code.cells (state_of (A.CellArray.cells array.old) blank) (lines_left lines.entry) v.items) }
 {
-    let mut store = Store::new(group, array, n);
+    let mut store = Store::new(code, array);
     answer_lines(heap, &mut store, lines)
 }
 
+// Answers the lines, after the number of the records of the store.
 fn answer_lines<G: Group, A: Erasable>(
     heap: Global,
     store: &mut Store<G, A>,
     lines: Lines,
 ) -> Result<Vec<Reply>, AllocError>
-    ensures { IfOk result (λ v. Answered (G.Group.meaning store.old.group) store.old.n (state A.CellArray.cells store.old) (lines_left lines.entry) v.items) }
+    ensures { IfOk result (λ v. Answered (G.Group.meaning store.old.code.group) store.old.code.cells (state A.CellArray.cells store.old) (lines_left lines.entry) v.items) }
 {
     let mut replies = Vec::new(heap);
     replies.push(Reply::Made {

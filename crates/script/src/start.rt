@@ -13,6 +13,7 @@ use crate::rest::answer_rest;
 use calls::fault::Locate;
 use commands::fault::LineFault;
 use commands::head::Heading;
+use coset::code::Code;
 use images::flash::FlashPart;
 use images::fresh::fresh_flash;
 use std::alloc::{AllocError, Global};
@@ -50,12 +51,15 @@ fn open_store(heap: Global, place: HeadPlace, lines: Lines) -> Result<Vec<Reply>
         pages,
         width,
     } = place.heading;
-    let n = n.value as usize;
-    let fresh = fresh_flash(heap, pages.value as usize, width.value as usize);
+    let fresh = fresh_flash(heap, pages.index(), width.index());
     let mut image = fresh.located_at(place)?;
     let mut part = FlashPart::over(&mut image);
-    check_making(&group, &part, n).located_at(place)?;
-    Ok(answer_rest(heap, group, &mut part, n, lines)?)
+    let code = Code {
+        group,
+        cells: n.index(),
+    };
+    check_making(&code, &part).located_at(place)?;
+    Ok(answer_rest(heap, code, &mut part, lines)?)
 }
 
 // A refusal of the script as a whole, at line 1 and column 1.

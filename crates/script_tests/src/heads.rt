@@ -240,6 +240,7 @@ const MAKINGS: &[Case] = &[
     (b"H Z7 64 1 1", "X 31 M 1 6"),
 ];
 
+// One call, as in `calls_that_mark_nothing` of `lines`: each of the two files has the tests of its own tables.
 #[test]
 fn refused_makings(rt: HostRuntime) -> Result<(), Fail> {
     HEAD.check_all(&rt, rt.alloc(), "makings", MAKINGS)

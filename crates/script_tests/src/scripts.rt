@@ -1,5 +1,6 @@
 // What the tests ask of a script: tables of scripts, or of single lines, with the text that each prints.
-// A failure names the table, and the place in it, from 0.
+// A failure names the table, and the place in it, from 0. The checks take the runtime, the heap and the table's name:
+// a struct of the three would be made for each table.
 use script::script::run_script;
 use std::alloc::{AllocError, Global};
 use std::process::Abort;

@@ -11,6 +11,7 @@ use calls::fault::StoreFault;
 use calls::ledger::Ledger;
 use cells::array::{CellArray, Erasable};
 use cells::bench::Bench;
+use coset::code::Code;
 use group::integers::Integers;
 use images::fault::ImageError;
 use images::flash::FlashPart;
@@ -23,16 +24,21 @@ fn main(rt: HostRuntime) -> anyhow::Result<()> {
     let mut bench = Bench::new();
     show_run(&rt, &mut bench, &UNTIL_WORN)?;
     println!(rt; "flash image of one page of 12 cells")?;
-    let Ok(mut image) = fresh_flash(rt.alloc(), 1, 12) else {
-        return Err(anyhow!("no memory for the image"));
-    };
+    let mut image = fresh_flash(rt.alloc(), 1, 12).map_err(|error| match error {
+        ImageError::NoMemory => anyhow!("no memory for the image"),
+        ImageError::Image(fault) => anyhow!("refused {}", fault.number()),
+    })?;
     let mut flash = FlashPart::over(&mut image);
     show_run(&rt, &mut flash, &WITH_A_NEIGHBOUR)
 }
 
 // Makes a store over the array, applies the calls to it, and prints what they did.
 fn show_run<A: Erasable>(rt: &HostRuntime, array: &mut A, calls: &[Call]) -> anyhow::Result<()> {
-    let run = run_calls(rt.alloc(), Integers::new(7), array, 6, calls)?;
+    let code = Code {
+        group: Integers::new(7),
+        cells: 6,
+    };
+    let run = run_calls(rt.alloc(), code, array, calls)?;
     for (call, answer) in calls.iter().zip(run.answers.iter()) {
         show_call(rt, *call, *answer)?;
     }
@@ -41,8 +47,9 @@ fn show_run<A: Erasable>(rt: &HostRuntime, array: &mut A, calls: &[Call]) -> any
     Ok(())
 }
 
-// An array has no pages to go over, but answers by the number of one.
+// Here and below each value is printed at one place, in words of this program: a `Display` would be no shorter.
 fn show_wear<A: Erasable>(rt: &HostRuntime, array: &A) -> io::Result<()> {
+    // An array has no pages to go over, but answers by the number of one.
     for page in 0..array.pages() {
         if let Ok((wear, limit)) = array.wear(page) {
             println!(rt; "page {page}: wear {wear} of {limit}")?;
@@ -51,7 +58,6 @@ fn show_wear<A: Erasable>(rt: &HostRuntime, array: &A) -> io::Result<()> {
     Ok(())
 }
 
-// The words are this program's own, and each is printed once, so that no `Display` would be shorter.
 fn show_call(rt: &HostRuntime, call: Call, answer: Result<u32, StoreFault>) -> io::Result<()> {
     let what = match call {
         Call::Get { record } => {

@@ -1,7 +1,7 @@
 -- Planning and writing the records of a page one by one. Assumes nothing.
-use Rattle.std.proofs.Common.{◌≡◌, ℕ, zero, suc, ◌+◌, ◌*◌, ◌/◌, ◌<◌, ◌≤◌, min, Bool, true, false, cond, ◌||◌, eqb, ◌⊎◌, List, length, get_or, set, sym, refl, ap, ◌∙◌, inl, inr, mul-le-mul_right, suc-mul, add-one, arith}
+use Rattle.std.proofs.Common.{◌≡◌, ℕ, zero, suc, ◌+◌, ◌*◌, ◌/◌, ◌<◌, ◌≤◌, min, Bool, true, false, cond, ◌||◌, eqb, ◌⊎◌, List, [], ◌∷◌, ◌++◌, length, get_or, sym, refl, ap, ◌∙◌, inl, inr, mul-le-mul_right, suc-mul, add-one, arith}
 use Rattle.std.proofs.lemmas.Nat.{mul-add-lt, div-add-mod'}
-use Rattle.std.proofs.lemmas.List.{get_or-set_same, get_or-set_other}
+use Rattle.std.proofs.lemmas.List.{get_or_push, get_or_append_left, length-append}
 use Rattle.std.proofs.lemmas.Bool.{cases_eq}
 use Rattle.cells.specs.Cells.{Cells, Cell}
 use Rattle.cells.specs.Sets.{Cellset, size_below}
@@ -28,15 +28,20 @@ module _ (c : Code) (m : Cells) (page named x : ℕ) where
 
   -- one plan more
   pub page_more :
-      (r : ℕ) (plans : List CellSet) (p : CellSet) → r < length plans → PlansOfPage c m page named x r plans →
-      Plan c every (target c m page named x r) (members_of p) → PlansOfPage c m page named x (r + 1) (set plans r p)
-  page_more r plans p room earlier plan k d h = go (cases_eq k r)
+      (r : ℕ) (plans : List CellSet) (p : CellSet) → PlansOfPage c m page named x r plans →
+      Plan c every (target c m page named x r) (members_of p) → PlansOfPage c m page named x (r + 1) (plans ++ p ∷ [])
+  page_more r plans p earlier plan =
+      record {
+        all = let long = length-append plans (p ∷ []) in let few = earlier.all in omega arith;
+        each = λ k d h. go k d h (cases_eq k r);
+      }
     where
-      go : ((k ≡ r) ⊎ (k ≡ r → ⊥)) → Plan c every (target c m page named x k) (members_of (get_or (set plans r p) k d))
-      go (inl e) =
-          rw (e, get_or-set_same plans r p d room) plan
-      go (inr ne) =
-          rw (get_or-set_other plans r k p d ne) (earlier k d (omega arith))
+      go : (k : ℕ) (d : CellSet) → k < r + 1 → ((k ≡ r) ⊎ (k ≡ r → ⊥)) → Plan c every (target c m page named x k) (members_of (get_or (plans ++ p ∷ []) k d))
+      go k d h (inl e) =
+          rw (e, get_or_push plans p d r earlier.all) plan
+      go k d h (inr ne) =
+          let few = earlier.all in
+          rw (get_or_append_left plans (p ∷ []) d k (omega arith)) (earlier.each k d (omega arith))
 
 -- the cells of record r of a page are before those of the next
 row_end : (n r : ℕ) → r * n + n ≡ (r + 1) * n

@@ -84,13 +84,13 @@ module _ (c : Code) (m : Cells) (k : ℕ) (found : Found) (known : Known c m k f
               ∙ sym (ne_eqb (page_of c m k * per_page c m + r) k (λ e. ne (sym (place_back c m (page_of c m k) r h) ∙ ap (λ z. z % per_page c m) e)))
 
       all_planned : (r : ℕ) → r < per_page c m → Plan c every (renewed_value c m k x (page_of c m k * per_page c m + r)) (members_of (get_or plans r d₀))
-      all_planned r h = subst (λ d. Plan c every d (members_of (get_or plans r d₀))) (target_is r h) (planned r d₀ h)
+      all_planned r h = subst (λ d. Plan c every d (members_of (get_or plans r d₀))) (target_is r h) (planned.each r d₀ h)
 
       -- the new value is within reach from empty
       within_reach : Unreachable c every x → ⊥
       within_reach far =
           let r = k % per_page c m in
-          let p = planned (k % per_page c m) d₀ t.place in
+          let p = planned.each (k % per_page c m) d₀ t.place in
           far (members_of (get_or plans (k % per_page c m) d₀))
           (subst (λ b. Plan c every (cond b x (sum_of c (cells_from m (nth_place c (page_of c m k) (k % per_page c m))))) (members_of (get_or plans (k % per_page c m) d₀)))
           (eq-eqb (k % per_page c m) (k % per_page c m) refl) p).reaches

@@ -1,17 +1,16 @@
 -- The steps of the calls: finding a record, reading it, and setting cells in it. Assumes nothing.
-use Rattle.std.specs.Prelude.{◌≡◌, ℕ, ◌+◌, ◌*◌, ◌<◌, ◌≤◌, false, cond, ◌||◌, List, Some, None, Ok, Err, Option, Result, ◌==◌, ◌≢◌, slice_index_or}
+use Rattle.std.specs.Prelude.{◌≡◌, ℕ, ◌+◌, ◌*◌, ◌<◌, ◌≤◌, false, cond, ◌||◌, ◌⊎◌, List, Ok, Err, Result, ◌==◌, ◌≢◌, slice_index_or, length}
 use Rattle.cells.specs.Cells.{Cells, Shaped, Cell}
 use Rattle.cells.specs.Sets.{Cellset}
 use Rattle.calls.specs.declared.fault.StoreFault.{StoreFault}
-use Rattle.calls.specs.declared.fault.StoreFault.TheVariants.{NoRecord}
+use Rattle.calls.specs.declared.fault.StoreFault.TheVariants.{NoRecord, NoValue}
 use Rattle.store.specs.declared.place.Place.{Place}
 use Rattle.store.specs.declared.place.Found.{Found}
-use Rattle.store.specs.declared.place.PagePlans.{PagePlans}
-use Rattle.coset.specs.Code.{Code, every, sum_of, Unreachable, Plan}
+use Rattle.coset.specs.Code.{Code, every, sum_of, Plan}
 use Rattle.coset.specs.CellSets.{members_of}
 use Rattle.coset.specs.declared.cellset.CellSet.{CellSet}
 use Rattle.calls.specs.Calls.{sizes}
-use Rattle.calls.specs.Records.{records, per_page, page_of, first_of, held, value}
+use Rattle.calls.specs.Records.{records, page_of, first_of, held, value}
 
 -- where record k lies, or that there is no such record
 abbrev pub Places : Code → Cells → ℕ → Result Place StoreFault → Type 0
@@ -28,6 +27,12 @@ pub record Known (c : Code) (m : Cells) (k : ℕ) (found : Found) : Type 0 where
 abbrev pub Finds : Code → Cells → ℕ → Result Found StoreFault → Type 0
 Finds c m k (Ok found) = Known c m k found
 Finds c m k (Err f) = (records c m ≤ k) × (f ≡ NoRecord k)
+
+-- what is found of record k that is to hold x, or that there is no such record, or else no such value
+abbrev pub FindsFor : Code → Cells → ℕ → ℕ → Result Found StoreFault → Type 0
+FindsFor c m k x (Ok found) = Known c m k found × (x < c.group.order)
+FindsFor c m k x (Err f) =
+    ((records c m ≤ k) × (f ≡ NoRecord k)) ⊎ ((k < records c m) × (c.group.order ≤ x) × (f ≡ NoValue k))
 
 -- n cells from a place on are cells of the array
 pub record Inside (m : Cells) (n : ℕ) (at : Place) : Type 0 where
@@ -57,14 +62,9 @@ abbrev pub target : Code → Cells → ℕ → ℕ → ℕ → ℕ → ℕ
 target c m page named x r = cond (r == named) x (sum_of c (cells_from m (nth_place c page r)))
 
 -- a plan from empty for each of the first b records of a page
-abbrev pub PlansOfPage : Code → Cells → ℕ → ℕ → ℕ → ℕ → List CellSet → Type 0
-PlansOfPage c m page named x b plans =
-    (r : ℕ) (d : CellSet) → r < b → Plan c every (target c m page named x r) (members_of (slice_index_or plans r d))
-
--- such plans, or the news that x is out of reach from empty
-abbrev pub PlansPage : Code → Cells → ℕ → ℕ → ℕ → Option PagePlans → Type 0
-PlansPage c m page named x None = Unreachable c every x
-PlansPage c m page named x (Some ps) = (ps.records ≡ per_page c m) × PlansOfPage c m page named x (per_page c m) ps.plans
+pub record PlansOfPage (c : Code) (m : Cells) (page named x b : ℕ) (plans : List CellSet) : Type 0 where
+  pub all : length plans ≡ b
+  pub each : (r : ℕ) (d : CellSet) → r < b → Plan c every (target c m page named x r) (members_of (slice_index_or plans r d))
 
 -- A page with no cell set was written by the plans of its first b records.
 pub record PageWritten (n page b : ℕ) (plans : List CellSet) (before after : Cells) (marked : ℕ) : Type 0 where

@@ -6,7 +6,8 @@ ghost use Rattle.calls.specs.declared.call.Call.{Call as CallMeaning};
 ghost use Rattle.calls.specs.Calls.{state_of, Obeys};
 ghost use Rattle.calls.specs.Promise.{Promise, WithinCeiling};
 ghost use Rattle.calls.specs.Runs.{as_call};
-ghost use Rattle.store.specs.Keeps.{Keeps, code_of, state};
+ghost use Rattle.coset.specs.Codes.{code_of};
+ghost use Rattle.store.specs.Keeps.{Keeps, state};
 
 use crate::store::Store;
 use calls::call::{Access, Call};
@@ -23,7 +24,7 @@ pub trait Request<A: CellArray> {
 
     fn serve<G: Group>(&self, store: &mut Store<G, A>) -> Result<u32, StoreFault>
         ensures keeps { Keeps A.CellArray.held A.CellArray.intact store.old store.new }
-        ensures obeys { Obeys (code_of G.Group.meaning store.old) (call self.now) result (state A.CellArray.cells store.old) (state A.CellArray.cells store.new) };
+        ensures obeys { Obeys (code_of G.Group.meaning store.old.code) (call self.now) result (state A.CellArray.cells store.old) (state A.CellArray.cells store.new) };
 }
 
 impl<A: Erasable> Request<A> for Call {
@@ -38,6 +39,7 @@ impl<A: Erasable> Request<A> for Call {
     }
 }
 
+// As `Call`, but with no renewal: what the two ask of an array differs, and each goes by its own cases.
 impl<A: CellArray> Request<A> for Access {
     ghost call = { as_call };
 
@@ -57,7 +59,7 @@ impl<G: Group, A: CellArray> Store<G, A> {
         calls: &[C],
     ) -> Result<Vec<Result<u32, StoreFault>>, AllocError>
         ensures keeps { Keeps A.CellArray.held A.CellArray.intact self.old self.new }
-        ensures promise { IfOk result (λ answers. Promise (G.Group.meaning self.old.group) self.old.n (state A.CellArray.cells self.old) (map C.Request.call calls.now) answers.items (state A.CellArray.cells self.new)) }
+        ensures promise { IfOk result (λ answers. Promise (G.Group.meaning self.old.code.group) self.old.code.cells (state A.CellArray.cells self.old) (map C.Request.call calls.now) answers.items (state A.CellArray.cells self.new)) }
         ensures refused { OnErr result (self.new ≡ self.old) }
     {
         // The counts have 32 bits, which the proof learns where they are read.

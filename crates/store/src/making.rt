@@ -1,10 +1,11 @@
-// The check of a making: whether a group, an array and n make a store that has records.
+// The check of a making: whether a code and an array make a store that has records.
 // The first row that holds is answered, by its own fault.
 ghost use Rattle.std.specs.Prelude.{◌≡◌};
 ghost use Rattle.store.specs.Making.{making_number, Makes};
 
 use cells::array::CellArray;
 use coset::cellset::MAX_CELLS;
+use coset::code::Code;
 use group::interface::Group;
 
 #[derive(Clone, Copy, PartialEq, Debug)]
@@ -30,21 +31,17 @@ impl MakingFault {
     }
 }
 
-// Whether a store of these has records, or why it has none. They are no store yet, so no struct holds the three.
-pub fn check_making<G: Group, A: CellArray>(
-    group: &G,
-    array: &A,
-    n: usize,
-) -> Result<(), MakingFault>
-    ensures { Makes (G.Group.meaning group.now) (A.CellArray.cells array.now) n result }
+// Whether a store of these has records, or why it has none.
+pub fn check_making<G: Group, A: CellArray>(code: &Code<G>, array: &A) -> Result<(), MakingFault>
+    ensures { Makes (G.Group.meaning code.now.group) (A.CellArray.cells array.now) code.now.cells result }
 {
-    if !group.is_usable() {
+    if !code.group.is_usable() {
         return Err(MakingFault::Unusable);
     }
-    if n == 0 || n > MAX_CELLS {
+    if code.cells == 0 || code.cells > MAX_CELLS {
         return Err(MakingFault::Cells);
     }
-    if array.width() < n {
+    if array.width() < code.cells {
         return Err(MakingFault::Narrow);
     }
     Ok(())

@@ -1,7 +1,6 @@
 // Where a record lies, what was found there, and the plans of a whole page.
 // The cells of a record are n cells in a row.
-ghost use Rattle.std.specs.Prelude.{◌≤◌};
-
+use arrayvec::ArrayVec;
 use coset::cellset::CellSet;
 
 // the most records to a page
@@ -22,10 +21,5 @@ pub(crate) struct Found {
     pub(crate) value: u32,
 }
 
-// A plan for each record of a page. Memory of a fixed size, so that a renewal never fails for want of it.
-#[derive(Clone, Copy)]
-pub(crate) struct PagePlans {
-    pub(crate) plans: [CellSet; MAX_PER_PAGE],
-    pub(crate) records: usize,
-    ghost few: { records ≤ 64 },
-}
+// A plan for each record of a page. It never allocates, so that a renewal never fails for want of memory.
+pub(crate) type PagePlans = ArrayVec<CellSet, MAX_PER_PAGE>;

@@ -1,4 +1,4 @@
-// The whole promise on one call: a store is made of a group, an array and n, and a list of calls is applied to it.
+// The whole promise on one call: a store is made of a code and an array, and a list of calls is applied to it.
 // The array is lent, so that its owner has it again with all that the calls left there.
 ghost use Rattle.std.specs.Prelude.{◌≡◌, map, IfOk, OnErr};
 ghost use Rattle.cells.specs.Device.{Kept};
@@ -13,6 +13,7 @@ use calls::call::{Access, Call};
 use calls::fault::StoreFault;
 use calls::ledger::Ledger;
 use cells::array::{CellArray, Erasable};
+use coset::code::Code;
 use group::interface::Group;
 use std::alloc::{AllocError, Global};
 
@@ -26,35 +27,33 @@ pub struct Run {
 // Makes a store over an array that can be erased, and applies gets, puts and renewals to it.
 pub fn run_calls<G: Group + Drop, A: Erasable>(
     heap: Global,
-    group: G,
+    code: Code<G>,
     array: &mut A,
-    n: usize,
     calls: &[Call],
 ) -> Result<Run, AllocError>
     ensures kept { Kept A.CellArray.held A.CellArray.intact array.old array.new }
-    ensures promise { IfOk result (λ run. Promise (G.Group.meaning group) n (state_of (A.CellArray.cells array.old) blank) calls.now run.answers.items (state_of (A.CellArray.cells array.new) run.ledger)) }
+    ensures promise { IfOk result (λ run. Promise (G.Group.meaning code.group) code.cells (state_of (A.CellArray.cells array.old) blank) calls.now run.answers.items (state_of (A.CellArray.cells array.new) run.ledger)) }
     ensures refused { OnErr result (array.new ≡ array.old) }
 {
-    let (array, run) = apply_to(heap, group, array, n, calls);
+    let (array, run) = apply_to(heap, code, array, calls);
     let _ = array;
     run
 }
 
 // Makes a store over any cell array, and applies gets and puts to it.
-// It is not one with `run_calls`: that a list is served over every borrow of an array is no bound that can be stated yet,
-// and where the borrow has a lifetime of its own, the contract cannot speak of the array afterwards.
+// It is not one with `run_calls`: that a list is served over every borrow of an array is no bound that can be stated
+// yet, and where the borrow has a lifetime of its own, the contract cannot speak of the array afterwards.
 pub fn run_accesses<G: Group + Drop, A: CellArray>(
     heap: Global,
-    group: G,
+    code: Code<G>,
     array: &mut A,
-    n: usize,
     accesses: &[Access],
 ) -> Result<Run, AllocError>
     ensures kept { Kept A.CellArray.held A.CellArray.intact array.old array.new }
-    ensures promise { IfOk result (λ run. Promise (G.Group.meaning group) n (state_of (A.CellArray.cells array.old) blank) (map as_call accesses.now) run.answers.items (state_of (A.CellArray.cells array.new) run.ledger)) }
+    ensures promise { IfOk result (λ run. Promise (G.Group.meaning code.group) code.cells (state_of (A.CellArray.cells array.old) blank) (map as_call accesses.now) run.answers.items (state_of (A.CellArray.cells array.new) run.ledger)) }
     ensures refused { OnErr result (array.new ≡ array.old) }
 {
-    let (array, run) = apply_to(heap, group, array, n, accesses);
+    let (array, run) = apply_to(heap, code, array, accesses);
     let _ = array;
     run
 }
@@ -62,21 +61,19 @@ pub fn run_accesses<G: Group + Drop, A: CellArray>(
 // Makes a store over an array, applies a list of calls to it, and gives the array back.
 fn apply_to<G: Group + Drop, A: CellArray, C: Request<A>>(
     heap: Global,
-    group: G,
+    code: Code<G>,
     array: A,
-    n: usize,
     calls: &[C],
 ) -> (A, Result<Run, AllocError>)
     ensures kept { Kept A.CellArray.held A.CellArray.intact array result.0 }
-    ensures promise { IfOk result.1 (λ run. Promise (G.Group.meaning group) n (state_of (A.CellArray.cells array) blank) (map C.Request.call calls.now) run.answers.items (state_of (A.CellArray.cells result.0) run.ledger)) }
+    ensures promise { IfOk result.1 (λ run. Promise (G.Group.meaning code.group) code.cells (state_of (A.CellArray.cells array) blank) (map C.Request.call calls.now) run.answers.items (state_of (A.CellArray.cells result.0) run.ledger)) }
     ensures refused { OnErr result.1 (result.0 ≡ array) }
 {
-    let mut store = Store::new(group, array, n);
+    let mut store = Store::new(code, array);
     let applied = store.apply(heap, calls);
     let Store {
-        group: _group,
+        code: _code,
         array,
-        n: _,
         ledger,
     } = store;
     (array, applied.map(|answers| Run { answers, ledger }))

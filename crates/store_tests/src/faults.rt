@@ -43,6 +43,7 @@ fn each_fault_has_its_number(rt: HostRuntime) {
 #[test]
 fn a_device_fault_is_kept_whole_with_its_record(rt: HostRuntime) {
     let mut bench = Bench::new();
+    // A loop, since each turn asserts something.
     for _ in 0..3 {
         assert_eq!(rt; erase_for(&mut bench, 1, 12), Ok(()));
     }

@@ -13,9 +13,8 @@ fn one_record_to_a_page(rt: HostRuntime) -> Result<(), Fail> {
     let counted = check_calls(
         &rt,
         rt.alloc(),
-        Integers::new(7),
+        code(Integers::new(7), 6),
         &mut FlashPart::over(&mut image),
-        6,
         &[
             (put(0, 3), Ok(1)),
             (put(1, 5), Ok(1)),
@@ -47,7 +46,7 @@ fn records_by_pages_and_width(rt: HostRuntime) -> Result<(), Fail> {
     for (pages, width, n, records) in cases {
         let mut image = fresh_flash(rt.alloc(), pages, width)?;
         let part = FlashPart::over(&mut image);
-        check_records(&rt, Integers::new(7), part, n, records)?;
+        check_records(&rt, code(Integers::new(7), n), part, records)?;
     }
     Ok(())
 }
@@ -63,9 +62,8 @@ fn the_last_of_the_most_records(rt: HostRuntime) -> Result<(), Fail> {
     check_calls(
         &rt,
         rt.alloc(),
-        Integers::new(2),
+        code(Integers::new(2), 1),
         &mut FlashPart::over(&mut image),
-        1,
         &[(put(4_095, 1), Ok(1)), (put(4_096, 1), no_record(4_096))],
     )?;
     assert_eq!(rt; image, expected);
@@ -78,7 +76,7 @@ fn the_last_renewal_of_a_page(rt: HostRuntime) -> Result<(), Fail> {
     let mut image = [2, 0, 0, 0, 0, 0, 0, 0x27, 0x0f, 0, 6, 0xff, 0xc5];
     let last = [(renew(3, 3), Ok(2))];
     let mut part = FlashPart::over(&mut image);
-    let counted = check_calls(&rt, rt.alloc(), Vectors::new(2), &mut part, 3, &last)?;
+    let counted = check_calls(&rt, rt.alloc(), code(Vectors::new(2), 3), &mut part, &last)?;
     assert_eq!(rt; counted, ledger(0, 1, 2));
     assert_eq!(rt; image, [2, 0, 0, 0, 0, 0, 0, 0x27, 0x10, 0, 6, 0xff, 0xdd]);
     let past = [
@@ -88,7 +86,7 @@ fn the_last_renewal_of_a_page(rt: HostRuntime) -> Result<(), Fail> {
         (get(3), Ok(0)),
     ];
     let mut part = FlashPart::over(&mut image);
-    let counted = check_calls(&rt, rt.alloc(), Vectors::new(2), &mut part, 3, &past)?;
+    let counted = check_calls(&rt, rt.alloc(), code(Vectors::new(2), 3), &mut part, &past)?;
     assert_eq!(rt; counted, ledger(1, 0, 2), "the put alone is counted");
     assert_eq!(rt; image, [2, 0, 0, 0, 0, 0, 0, 0x27, 0x10, 0, 6, 0xff, 0xc5]);
     Ok(())
@@ -102,9 +100,8 @@ fn refusals_go_in_order_and_write_nothing(rt: HostRuntime) -> Result<(), Fail> {
     let counted = check_calls(
         &rt,
         rt.alloc(),
-        Integers::new(4),
+        code(Integers::new(4), 1),
         &mut FlashPart::over(&mut image),
-        1,
         &[
             (get(2), no_record(2)),
             (put(2, 4), no_record(2)),
@@ -136,9 +133,8 @@ fn over_refused_bytes_there_are_no_records(rt: HostRuntime) -> Result<(), Fail> 
         check_no_records(
             &rt,
             rt.alloc(),
-            Integers::new(7),
+            code(Integers::new(7), 6),
             &mut FlashPart::over(&mut image),
-            6,
         )?;
         assert_eq!(rt; image.as_slice(), bytes);
     }

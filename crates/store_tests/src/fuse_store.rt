@@ -1,12 +1,13 @@
 // The store over a fuse image: gets and puts alone, since nothing there is ever erased.
 // A set cell is a 1 bit.
-use crate::runs::{check_accesses, full, ledger, no_record, no_value};
+use crate::runs::{check_accesses, code, full, ledger, no_record, no_value};
 use calls::call::Access;
 use group::integers::Integers;
 use group::vectors::Vectors;
 use images::fuse::FuseBank;
 use std::test::Fail;
 
+// These make an `Access`, and those of `runs` a `Call`. A trait for both would have the same four bodies in its impls.
 fn get(record: usize) -> Access {
     Access::Get { record }
 }
@@ -23,9 +24,8 @@ fn fuses_that_are_set_already(rt: HostRuntime) -> Result<(), Fail> {
     let counted = check_accesses(
         &rt,
         rt.alloc(),
-        Integers::new(7),
+        code(Integers::new(7), 6),
         &mut FuseBank::over(&mut image),
-        6,
         &[
             (get(0), Ok(1)),
             (get(1), Ok(4)),
@@ -51,9 +51,8 @@ fn fuses_fill_up(rt: HostRuntime) -> Result<(), Fail> {
     let counted = check_accesses(
         &rt,
         rt.alloc(),
-        Vectors::new(2),
+        code(Vectors::new(2), 3),
         &mut FuseBank::over(&mut image),
-        3,
         &[
             (put(0, 1), Ok(1)),
             (put(0, 1), Ok(0)),
@@ -78,9 +77,8 @@ fn over_refused_bytes_there_are_no_records(rt: HostRuntime) -> Result<(), Fail> 
         let counted = check_accesses(
             &rt,
             rt.alloc(),
-            Integers::new(7),
+            code(Integers::new(7), 6),
             &mut FuseBank::over(&mut image),
-            6,
             &[(get(0), no_record(0)), (put(0, 0), no_record(0))],
         )?;
         assert_eq!(rt; counted, ledger(0, 0, 0));

@@ -17,9 +17,8 @@ fn a_history_with_every_kind_of_call(rt: HostRuntime) -> Result<(), Fail> {
     let counted = check_calls(
         &rt,
         rt.alloc(),
-        Vectors::new(2),
+        code(Vectors::new(2), 3),
         &mut FlashPart::over(&mut image),
-        3,
         &[
             (put(0, 1), Ok(1)),
             (put(0, 0), Ok(2)),
@@ -46,10 +45,10 @@ fn a_history_with_every_kind_of_call(rt: HostRuntime) -> Result<(), Fail> {
 fn no_calls(rt: HostRuntime) -> Result<(), Fail> {
     let mut bench = Bench::new();
     bench.mark(0, 4)?;
-    let called = check_calls(&rt, rt.alloc(), Vectors::new(2), &mut bench, 3, &[])?;
+    let called = check_calls(&rt, rt.alloc(), code(Vectors::new(2), 3), &mut bench, &[])?;
     assert_eq!(rt; called, ledger(0, 0, 0));
     assert_eq!(rt; called.rate(), None);
-    let accessed = check_accesses(&rt, rt.alloc(), Vectors::new(2), &mut bench, 3, &[])?;
+    let accessed = check_accesses(&rt, rt.alloc(), code(Vectors::new(2), 3), &mut bench, &[])?;
     assert_eq!(rt; accessed, ledger(0, 0, 0));
     assert_eq!(rt;
         set_cells(rt.alloc(), &bench, 0)?.as_slice(),
@@ -61,7 +60,7 @@ fn no_calls(rt: HostRuntime) -> Result<(), Fail> {
 // The second list goes on from the first, and so does each call that is made alone.
 #[test]
 fn lists_and_calls_on_one_store(rt: HostRuntime) -> Result<(), Fail> {
-    let mut store = Store::new(Vectors::new(2), Bench::new(), 3);
+    let mut store = Store::new(code(Vectors::new(2), 3), Bench::new());
     assert_eq!(rt; store.records(), 42);
     assert_eq!(rt;
         store.apply(rt.alloc(), &[put(41, 3), get(41)])?.as_slice(),

@@ -19,7 +19,7 @@ fn check_makings<A: CellArray>(
 ) {
     for (modulus, n, outcome) in cases {
         assert_eq!(rt;
-            check_making(&Integers::new(*modulus), array, *n),
+            check_making(&code(Integers::new(*modulus), *n), array),
             *outcome,
             "modulo {modulus}, n = {n}"
         );
@@ -59,18 +59,18 @@ fn the_first_row_that_holds_is_answered(rt: HostRuntime) {
 #[test]
 fn groups_of_every_kind_are_checked(rt: HostRuntime) {
     let bench = Bench::new();
-    assert_eq!(rt; check_making(&Vectors::new(6), &bench, 63), Ok(()));
+    assert_eq!(rt; check_making(&code(Vectors::new(6), 63), &bench), Ok(()));
     assert_eq!(rt;
-        check_making(&Vectors::new(7), &bench, 63),
+        check_making(&code(Vectors::new(7), 63), &bench),
         Err(MakingFault::Unusable)
     );
     let eight = Integers::new(8);
     assert_eq!(rt;
-        check_making(&Product::new(eight, eight), &bench, 63),
+        check_making(&code(Product::new(eight, eight), 63), &bench),
         Ok(())
     );
     assert_eq!(rt;
-        check_making(&Product::new(eight, Integers::new(9)), &bench, 63),
+        check_making(&code(Product::new(eight, Integers::new(9)), 63), &bench),
         Err(MakingFault::Unusable)
     );
 }
@@ -81,11 +81,11 @@ fn a_store_made_against_its_check_has_no_records(rt: HostRuntime) -> Result<(), 
     mark_all(&mut bench, 0, &[5, 6])?;
     let cases = [(65, 6), (1, 1), (7, 0), (7, 64), (7, usize::MAX), (0, 0)];
     for (modulus, n) in cases {
-        check_no_records(&rt, rt.alloc(), Integers::new(modulus), &mut bench, n)?;
+        check_no_records(&rt, rt.alloc(), code(Integers::new(modulus), n), &mut bench)?;
     }
-    check_no_records(&rt, rt.alloc(), Vectors::new(7), &mut bench, 6)?;
+    check_no_records(&rt, rt.alloc(), code(Vectors::new(7), 6), &mut bench)?;
     check_page(&rt, rt.alloc(), &bench, 0, &[5, 6], 0)?;
     let mut narrow = Paired::new(bench);
-    check_no_records(&rt, rt.alloc(), Integers::new(7), &mut narrow, 33)?;
+    check_no_records(&rt, rt.alloc(), code(Integers::new(7), 33), &mut narrow)?;
     check_page(&rt, rt.alloc(), &narrow, 0, &[2, 3], 0)
 }

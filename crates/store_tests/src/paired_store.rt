@@ -20,7 +20,13 @@ fn check_call<A: Erasable + Drop>(
     answer: Answer,
 ) -> Result<(), Fail> {
     let mut paired = Paired::new(below);
-    check_calls(rt, heap, Vectors::new(2), &mut paired, 3, &[(call, answer)])?;
+    check_calls(
+        rt,
+        heap,
+        code(Vectors::new(2), 3),
+        &mut paired,
+        &[(call, answer)],
+    )?;
     Ok(())
 }
 
@@ -34,9 +40,8 @@ fn pairs_of_a_bench_part(rt: HostRuntime) -> Result<(), Fail> {
     let counted = check_calls(
         &rt,
         rt.alloc(),
-        Vectors::new(2),
+        code(Vectors::new(2), 3),
         &mut paired,
-        3,
         &[
             (put(0, 3), Ok(1)),
             (get(11), Ok(2)),

@@ -14,9 +14,8 @@ fn records_lie_in_a_row(rt: HostRuntime) -> Result<(), Fail> {
     let counted = check_calls(
         &rt,
         rt.alloc(),
-        Integers::new(7),
+        code(Integers::new(7), 6),
         &mut bench,
-        6,
         &[
             (put(0, 1), Ok(1)),
             (put(9, 6), Ok(1)),
@@ -46,9 +45,8 @@ fn a_renewal_keeps_the_other_records(rt: HostRuntime) -> Result<(), Fail> {
     let counted = check_calls(
         &rt,
         rt.alloc(),
-        Integers::new(7),
+        code(Integers::new(7), 6),
         &mut bench,
-        6,
         &[
             (put(13, 5), full(13)),
             (renew(13, 5), Ok(4)),
@@ -73,9 +71,8 @@ fn the_fourth_renewal_of_a_page_is_refused(rt: HostRuntime) -> Result<(), Fail> 
     let counted = check_calls(
         &rt,
         rt.alloc(),
-        Vectors::new(2),
+        code(Vectors::new(2), 3),
         &mut bench,
-        3,
         &[
             (put(0, 3), Ok(1)),
             (put(0, 0), Ok(2)),

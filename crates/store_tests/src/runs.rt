@@ -1,10 +1,11 @@
 // What the tests ask of a store: tables of calls with their answers, and which cells are set afterwards.
-// The functions at the end shorten the tables.
+// The checks take the runtime, by which a test fails, and what allocates takes the heap.
 use calls::call::{Access, Call};
 use calls::fault::StoreFault;
 use calls::ledger::Ledger;
 use cells::array::{CellArray, Erasable};
 use cells::fault::DeviceFault;
+use coset::code::Code;
 use group::interface::Group;
 use std::alloc::{AllocError, Global};
 use std::process::Abort;
@@ -14,30 +15,33 @@ use store::store::Store;
 
 pub type Answer = Result<u32, StoreFault>;
 
+// The code of a group, with so many cells to a record.
+pub fn code<G>(group: G, cells: usize) -> Code<G> {
+    Code { group, cells }
+}
+
 // Makes a store over the array and applies the calls. Each must get the answer that stands beside it.
 pub fn check_calls<G: Group + Drop, A: Erasable>(
     rt: &impl Abort,
     heap: Global,
-    group: G,
+    code: Code<G>,
     array: &mut A,
-    n: usize,
     cases: &[(Call, Answer)],
 ) -> Result<Ledger, Fail> {
     let calls = first_of_each(heap, cases)?;
-    Ok(check_run(rt, run_calls(heap, group, array, n, &calls)?, cases))
+    Ok(check_run(rt, run_calls(heap, code, array, &calls)?, cases))
 }
 
 // The same over any cell array, with gets and puts alone. There are two, as there are two functions to try.
 pub fn check_accesses<G: Group + Drop, A: CellArray>(
     rt: &impl Abort,
     heap: Global,
-    group: G,
+    code: Code<G>,
     array: &mut A,
-    n: usize,
     cases: &[(Access, Answer)],
 ) -> Result<Ledger, Fail> {
     let accesses = first_of_each(heap, cases)?;
-    Ok(check_run(rt, run_accesses(heap, group, array, n, &accesses)?, cases))
+    Ok(check_run(rt, run_accesses(heap, code, array, &accesses)?, cases))
 }
 
 fn first_of_each<C: Copy + Drop>(
@@ -57,16 +61,13 @@ fn check_run<C>(rt: &impl Abort, run: Run, cases: &[(C, Answer)]) -> Ledger {
 
 // The set cells of a page, in rising order.
 pub fn set_cells<A: CellArray>(heap: Global, array: &A, page: usize) -> Result<Vec<usize>, Fail> {
-    let mut cells = Vec::new(heap);
-    for cell in 0..array.width() {
-        if array.look(page, cell)? {
-            cells.push(cell)?;
-        }
-    }
-    Ok(cells)
+    array.check_page(page)?;
+    let cells = (0..array.width()).filter(|cell| array.is_set(page, *cell));
+    Ok(cells.collect(heap)?)
 }
 
 // That these and no other cells of a page are set, and that the page has this wear.
+// `cells_tests` has one of its own: all that is there is `cfg(test)`, so that no other crate can use it.
 pub fn check_page<A: Erasable>(
     rt: &impl Abort,
     heap: Global,
@@ -88,14 +89,14 @@ pub fn check_page<A: Erasable>(
 // That a store made of these has this many records.
 pub fn check_records<G: Group + Drop, A: CellArray + Drop>(
     rt: &impl Abort,
-    group: G,
+    code: Code<G>,
     array: A,
-    n: usize,
     records: usize,
 ) -> Result<(), Fail> {
     let pages = array.pages();
     let width = array.width();
-    let store = Store::new(group, array, n);
+    let n = code.cells;
+    let store = Store::new(code, array);
     assert_eq!(rt;
         store.records(),
         records,
@@ -108,16 +109,14 @@ pub fn check_records<G: Group + Drop, A: CellArray + Drop>(
 pub fn check_no_records<G: Group + Copy + Drop, A: Erasable>(
     rt: &impl Abort,
     heap: Global,
-    group: G,
+    code: Code<G>,
     array: &mut A,
-    n: usize,
 ) -> Result<(), Fail> {
     let counted = check_calls(
         rt,
         heap,
-        group,
+        code,
         array,
-        n,
         &[
             (get(0), no_record(0)),
             (put(0, 0), no_record(0)),
@@ -128,7 +127,7 @@ pub fn check_no_records<G: Group + Copy + Drop, A: Erasable>(
         ],
     )?;
     assert_eq!(rt; counted, ledger(0, 0, 0));
-    assert_eq!(rt; Store::new(group, array, n).records(), 0);
+    assert_eq!(rt; Store::new(code, array).records(), 0);
     Ok(())
 }
 
@@ -151,6 +150,7 @@ pub fn ledger(changes: u32, renewals: u32, marked: u32) -> Ledger {
     }
 }
 
+// These shorten the tables. Each names a case of an enum, and no two the same, so one function cannot stand for them.
 pub fn get(record: usize) -> Call {
     Call::Get { record }
 }

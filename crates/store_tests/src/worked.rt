@@ -4,6 +4,7 @@ use crate::runs::*;
 use calls::call::Call;
 use cells::array::CellArray;
 use cells::bench::Bench;
+use coset::code::Code;
 use group::integers::Integers;
 use group::interface::Group;
 use group::product::Product;
@@ -18,37 +19,25 @@ type Example<'a> = (&'a [usize], Call, Answer, &'a [&'a [usize]]);
 // every cell of a record of six
 const SIX: &[usize] = &[0, 1, 2, 3, 4, 5];
 
+// The parameters are those of `check_calls`: each example makes a store of its own.
 fn check_examples<G: Group + Copy + Drop>(
     rt: &impl Abort,
     heap: Global,
-    group: G,
-    n: usize,
+    code: Code<G>,
     examples: &[Example],
 ) -> Result<(), Fail> {
-    for example in examples {
-        check_example(rt, heap, group, n, *example)?;
+    for (before, call, answer, after) in examples {
+        let mut bench = Bench::new();
+        mark_all(&mut bench, 0, before)?;
+        check_calls(rt, heap, code, &mut bench, &[(*call, *answer)])?;
+        let cells = set_cells(heap, &bench, 0)?;
+        assert!(rt; after.contains(&cells.as_slice()), "set: {cells:?}");
+        assert_eq!(rt;
+            set_cells(heap, &bench, 1)?.as_slice(),
+            [].as_slice(),
+            "page 1"
+        );
     }
-    Ok(())
-}
-
-fn check_example<G: Group + Drop>(
-    rt: &impl Abort,
-    heap: Global,
-    group: G,
-    n: usize,
-    example: Example,
-) -> Result<(), Fail> {
-    let (before, call, answer, after) = example;
-    let mut bench = Bench::new();
-    mark_all(&mut bench, 0, before)?;
-    check_calls(rt, heap, group, &mut bench, n, &[(call, answer)])?;
-    let cells = set_cells(heap, &bench, 0)?;
-    assert!(rt; after.contains(&cells.as_slice()), "set: {cells:?}");
-    assert_eq!(rt;
-        set_cells(heap, &bench, 1)?.as_slice(),
-        [].as_slice(),
-        "page 1"
-    );
     Ok(())
 }
 
@@ -57,8 +46,7 @@ fn integers_modulo_seven(rt: HostRuntime) -> Result<(), Fail> {
     check_examples(
         &rt,
         rt.alloc(),
-        Integers::new(7),
-        6,
+        code(Integers::new(7), 6),
         &[
             (&[0, 4], get(0), Ok(6), &[&[0, 4]]),
             (&[], put(0, 3), Ok(1), &[&[2]]),
@@ -79,8 +67,7 @@ fn binary_vectors_and_a_product(rt: HostRuntime) -> Result<(), Fail> {
     check_examples(
         &rt,
         rt.alloc(),
-        Vectors::new(2),
-        3,
+        code(Vectors::new(2), 3),
         &[
             (&[0], put(0, 0), Ok(2), &[&[0, 1, 2]]),
             (&[0, 1], get(0), Ok(3), &[&[0, 1]]),
@@ -90,8 +77,7 @@ fn binary_vectors_and_a_product(rt: HostRuntime) -> Result<(), Fail> {
     check_examples(
         &rt,
         rt.alloc(),
-        Product::new(Integers::new(2), Integers::new(3)),
-        5,
+        code(Product::new(Integers::new(2), Integers::new(3)), 5),
         &[
             (&[3, 4], get(0), Ok(0), &[&[3, 4]]),
             (&[3], put(0, 0), Ok(1), &[&[3, 4]]),
@@ -106,8 +92,7 @@ fn labels_start_again_at_one(rt: HostRuntime) -> Result<(), Fail> {
     check_examples(
         &rt,
         rt.alloc(),
-        Integers::new(3),
-        5,
+        code(Integers::new(3), 5),
         &[
             (&[2], get(0), Ok(1), &[&[2]]),
             (&[3], get(0), Ok(2), &[&[3]]),
@@ -131,9 +116,8 @@ fn one_cell_modulo_four(rt: HostRuntime) -> Result<(), Fail> {
     let counted = check_calls(
         &rt,
         rt.alloc(),
-        Integers::new(4),
+        code(Integers::new(4), 1),
         &mut bench,
-        1,
         &[
             (put(0, 2), full(0)),
             (renew(0, 2), unreached(0)),
@@ -153,15 +137,15 @@ fn one_cell_modulo_four(rt: HostRuntime) -> Result<(), Fail> {
 #[test]
 fn the_widest_record(rt: HostRuntime) -> Result<(), Fail> {
     let mut bench = Bench::new();
+    // A loop, which a refused mark ends by `?`; a chain would carry the array into a closure.
     for cell in 0..64 {
         bench.mark(1, cell)?;
     }
     let counted = check_calls(
         &rt,
         rt.alloc(),
-        Integers::new(64),
+        code(Integers::new(64), 63),
         &mut bench,
-        63,
         &[
             (put(0, 63), Ok(1)),
             (get(1), Ok(32)),

@@ -1,8 +1,9 @@
-use Rattle.std.proofs.Common.{arith}
-use Rattle.images.proofs.Blank.{counts_pass, fresh_image}
+use Rattle.cells.specs.Rows.{Served}
+use Rattle.images.specs.Fresh.{count_checks}
+use Rattle.images.proofs.Blank.{fresh_image}
 use Rattle.images.proofs.fresh.fresh_flash.Goals as goal
 
 pub returns : goal.returns
 returns c =
-    let served = counts_pass c.args.pages c.args.width (omega arith) (omega arith) (omega arith) (omega arith) in
+    let served : Served (count_checks c.args.pages c.args.width) = (c.in_ok-check_pages.ensures.0.0, c.in_ok-check_width.ensures.0) in
     (served, fresh_image c.args.pages c.args.width served _ c.in_ok-unset_image.ensures)

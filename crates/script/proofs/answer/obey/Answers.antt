@@ -10,7 +10,7 @@ use Rattle.script.proofs.answer.obey.Goals as goal
 
 pub returns-in_err-order : goal.returns-in_err-order
 returns-in_err-order g c =
-    let co = code (g.G.Group.meaning c.args.store.now.group) c.args.store.now.n in
+    let co = code (g.G.Group.meaning c.args.store.now.code.group) c.args.store.now.code.cells in
     let s = state_of (g.A.CellArray.cells c.args.store.now.array) c.args.store.now.ledger in
     let l = c.args.line.bytes.now in
     let k = c.args.line.number in
@@ -18,13 +18,13 @@ returns-in_err-order g c =
     let p = err_from_is_err_and c.from_residual.result c.from_residual.ensures.1 in
     let fault = read_refused (line_spots l) (Orders l) k c.read.result e (sym c.located_at.ensures ∙ c.in_err-order.was) c.read.ensures in
     record {
-      keeps = (refl, refl, (refl, λ whole. whole));
+      keeps = (refl, (refl, λ whole. whole));
       course = tells_refused co k l e (spoken c.from_residual.result) s fault.0 fault.1 (ap spoken p.1 ∙ ap Refused p.2);
     }
 
 pub returns : goal.returns
 returns g c =
-    let co = code (g.G.Group.meaning c.args.store.now.group) c.args.store.now.n in
+    let co = code (g.G.Group.meaning c.args.store.now.code.group) c.args.store.now.code.cells in
     let before = state_of (g.A.CellArray.cells c.args.store.now.array) c.args.store.now.ledger in
     let after = state_of (g.A.CellArray.cells c.carry_out.new.store.array) c.carry_out.new.store.ledger in
     let l = c.args.line.bytes.now in

@@ -9,8 +9,7 @@ use Rattle.script.proofs.rest.answer_lines.Given as goal
 
 abbrev pub invariant-loop-line : goal.invariant-loop-line
 invariant-loop-line g l =
-    (l.store.group ≡ l.initial.store.group)
-    × (l.store.n ≡ l.initial.store.n)
-    × Progress (code (g.G.Group.meaning l.initial.store.group) l.initial.store.n) (state_of (g.A.CellArray.cells l.initial.store.array) l.initial.store.ledger)
+    (l.store.code ≡ l.initial.store.code)
+    × Progress (code (g.G.Group.meaning l.initial.store.code.group) l.initial.store.code.cells) (state_of (g.A.CellArray.cells l.initial.store.array) l.initial.store.ledger)
     (lines_left l.initial.line-iterator) (lines_left l.line-iterator) (state_of (g.A.CellArray.cells l.store.array) l.store.ledger)
-    (Made (records (code (g.G.Group.meaning l.initial.store.group) l.initial.store.n) (g.A.CellArray.cells l.initial.store.array))) (vec_items l.replies)
+    (Made (records (code (g.G.Group.meaning l.initial.store.code.group) l.initial.store.code.cells) (g.A.CellArray.cells l.initial.store.array))) (vec_items l.replies)

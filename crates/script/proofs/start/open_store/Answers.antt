@@ -11,30 +11,32 @@ returns-in_err-image c =
     let p = err_from_is_err_and c.from_residual.result c.from_residual.ensures.1 in
     rw (p.1, p.2)
     (image_stopped c.args.place vec_items c.fresh_flash-fresh.result c.in_err-image.field-0.0
-    (sym c.located_at.ensures ∙ c.in_err-image.was) c.fresh_flash-fresh.ensures)
+    (sym c.located_at.ensures ∙ c.in_err-image.was) (rw (← c.index.ensures, ← c.index-2.ensures) c.fresh_flash-fresh.ensures))
 
 pub returns-in_err-located_at : goal.returns-in_err-located_at
 returns-in_err-located_at c =
     let place = c.args.place in
     let image =
-    image_made place vec_items c.fresh_flash-fresh.result c.in_ok-image.image (sym c.located_at.ensures ∙ c.in_ok-image.was) c.fresh_flash-fresh.ensures in
+    image_made place vec_items c.fresh_flash-fresh.result c.in_ok-image.image (sym c.located_at.ensures ∙ c.in_ok-image.was)
+    (rw (← c.index.ensures, ← c.index-2.ensures) c.fresh_flash-fresh.ensures) in
     let fresh =
     fresh_part place.heading.pages.value place.heading.width.value (vec_items c.in_ok-image.image) c.over-part.result.image.now c.deref_mut.result.now
     c.over-part.result.layout image.1 c.deref_mut.ensures.value c.over-part.ensures.meaning c.over-part.ensures.bytes in
     let p = err_from_is_err_and c.from_residual-in_err-located_at.result c.from_residual-in_err-located_at.ensures.1 in
     rw (p.1, p.2)
     (store_stopped place (part_cells Flash c.over-part.result.layout c.over-part.result.image.now) fresh image.0 c.check_making.result
-    c.in_err-located_at.field-0.0 (sym c.located_at-2.ensures ∙ c.in_err-located_at.was) c.check_making.ensures)
+    c.in_err-located_at.field-0.0 (sym c.located_at-2.ensures ∙ c.in_err-located_at.was) (rw (← c.index-3.ensures) c.check_making.ensures))
 
 pub returns : goal.returns
 returns c =
     let place = c.args.place in
     let lines = lines_left c.args.lines in
     let image =
-    image_made place vec_items c.fresh_flash-fresh.result c.in_ok-image.image (sym c.located_at.ensures ∙ c.in_ok-image.was) c.fresh_flash-fresh.ensures in
+    image_made place vec_items c.fresh_flash-fresh.result c.in_ok-image.image (sym c.located_at.ensures ∙ c.in_ok-image.was)
+    (rw (← c.index.ensures, ← c.index-2.ensures) c.fresh_flash-fresh.ensures) in
     let fresh =
     fresh_part place.heading.pages.value place.heading.width.value (vec_items c.in_ok-image.image) c.over-part.result.image.now c.deref_mut.result.now
     c.over-part.result.layout image.1 c.deref_mut.ensures.value c.over-part.ensures.meaning c.over-part.ensures.bytes in
     store_opened place (part_cells Flash c.over-part.result.layout c.over-part.result.image.now) fresh image.0 c.check_making.result
-    c.in_ok-located_at.field-0 lines (vec_items c.in_ok-answer_rest.field-0) (sym c.located_at-2.ensures ∙ c.in_ok-located_at.was) c.check_making.ensures
-    c.in_ok-answer_rest.ensures
+    c.in_ok-located_at.field-0 lines (vec_items c.in_ok-answer_rest.field-0) (sym c.located_at-2.ensures ∙ c.in_ok-located_at.was)
+    (rw (← c.index-3.ensures) c.check_making.ensures) (rw (← c.index-3.ensures) c.in_ok-answer_rest.ensures)

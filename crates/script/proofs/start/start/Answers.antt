@@ -1,20 +1,9 @@
 use Rattle.std.proofs.Common.{vec_items, sym, ◌∙◌}
-use Rattle.std.proofs.lemmas.Result.{err_from_is_err_and}
 use Rattle.commands.specs.Orders.{head_spots, Headings}
 use Rattle.script.specs.Lines.{line_of, lines_left}
-use Rattle.script.proofs.Reading.{read_refused, read_passed}
-use Rattle.script.proofs.Starting.{head_misread, head_read}
+use Rattle.script.proofs.Reading.{read_passed}
+use Rattle.script.proofs.Starting.{head_read}
 use Rattle.script.proofs.start.start.Goals as goal
-
-pub returns-in_err-heading : goal.returns-in_err-heading
-returns-in_err-heading c =
-    let l = c.in-Some.head.bytes.now in
-    let e = c.in_err-heading.field-0.0 in
-    let fault = read_refused (head_spots l) (Headings l) c.in-Some.head.number c.read.result e (sym c.located_at.ensures ∙ c.in_err-heading.was) c.read.ensures in
-    let p = err_from_is_err_and c.from_residual.result c.from_residual.ensures.1 in
-    rw (p.1, p.2)
-    (head_misread c.args.script.now (line_of c.in-Some.head) (lines_left c.next.new.self) c.if-script-gt-MAX_SCRIPT.false
-    (sym c.of-lines.ensures ∙ c.in-Some.ensures.steps) e fault.0 fault.1)
 
 pub returns : goal.returns
 returns c =

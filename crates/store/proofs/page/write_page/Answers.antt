@@ -1,4 +1,4 @@
-use Rattle.std.proofs.Common.{◌≡◌, [], length, get_or, refl, ◌∙◌, arith, rules}
+use Rattle.std.proofs.Common.{[], length, get_or, refl, ◌∙◌, arith}
 use Rattle.std.proofs.lemmas.List.{get_or_default}
 use Rattle.cells.proofs.Sizes.{size_le}
 use Rattle.coset.specs.CellSets.{members_of}
@@ -8,27 +8,29 @@ use Rattle.store.proofs.page.write_page.Goals as goal
 
 pub loop-r-init : goal.loop-r-init
 loop-r-init g c =
-    ((refl, (λ whole. whole)), page_none c.args.n c.args.page c.args.plans.now.plans (g.A.CellArray.cells c.args.array.now) c.requires.unset)
+    ((refl, (λ whole. whole)), page_none c.args.n c.args.page c.args.plans.now (g.A.CellArray.cells c.args.array.now) c.requires.unset)
 
 pub overflow_add-marked : goal.overflow_add-marked
 overflow_add-marked g c =
+    let plans = c.args.plans.now in
     let d : CellSet = record { members = [] } in
     let counted = c.loop-r.invariant.1.counted d in
-    let earlier = sizes_few c.args.n (λ r. members_of (get_or c.args.plans.now.plans r d)) c.loop-r.r c.requires.few in
+    let earlier = sizes_few c.args.n (λ r. members_of (get_or plans r d)) c.loop-r.r c.requires.few in
     let this = c.write-marked.ensures.count in
-    let one = size_le (members_of (get_or c.args.plans.now.plans c.loop-r.r d)) c.args.n in
+    let one = size_le (members_of (get_or plans c.loop-r.r d)) c.args.n in
     let few = c.requires.few in
+    let shared = c.requires.shared in
     omega arith
 
 pub loop-r-preserved : goal.loop-r-preserved
 loop-r-preserved g c =
-    let len : length c.args.plans.now.plans ≡ 64 = search rules in
+    let plans = c.args.plans.now in
     let inv = c.loop-r.invariant in
     let wrote = c.write-marked.ensures in (
       (wrote.kept.0 ∙ inv.0.0, (λ whole. wrote.kept.1 (inv.0.1 whole))),
-      page_step c.args.n c.args.page c.args.plans.now.plans (g.A.CellArray.cells c.args.array.now) c.loop-r.r c.loop-r.marked
+      page_step c.args.n c.args.page plans (g.A.CellArray.cells c.args.array.now) c.loop-r.r c.loop-r.marked
           c.write-marked.result _ (g.A.CellArray.cells c.loop-r.array) (g.A.CellArray.cells c.write-marked.new.array) (omega arith)
-          (λ d. get_or_default c.args.plans.now.plans c.loop-r.r d (record { members = [] }) (omega arith))
-          (next_within c.args.n c.loop-r.r c.args.plans.now.records (g.A.CellArray.cells c.args.array.now).width c.loop-r-test.true c.requires.fits) c.requires.page
+          (λ e. get_or_default plans c.loop-r.r e (record { members = [] }) (omega arith))
+          (next_within c.args.n c.loop-r.r (length plans) (g.A.CellArray.cells c.args.array.now).width c.loop-r-test.true c.requires.fits) c.requires.page
           inv.1 wrote.sets wrote.count,
     )

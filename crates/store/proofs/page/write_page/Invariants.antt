@@ -5,4 +5,4 @@ use Rattle.store.proofs.page.write_page.Given as goal
 abbrev pub invariant-loop-r : goal.invariant-loop-r
 invariant-loop-r g l =
     Kept g.A.CellArray.held g.A.CellArray.intact l.initial.array l.array
-    × PageWritten l.n l.page l.r l.plans.plans (g.A.CellArray.cells l.initial.array) (g.A.CellArray.cells l.array) l.marked
+    × PageWritten l.n l.page l.r l.plans (g.A.CellArray.cells l.initial.array) (g.A.CellArray.cells l.array) l.marked

@@ -9,5 +9,5 @@ returns-clause-erases c =
     let asked = c.in_ok-worn.ensures in (
       search rules,
       bench_erased c.unset.result c.unset.ensures.set pages c.args.page c.in_ok-worn.worn (omega (arith, asked.0.0)) two asked.1
-          (omega (arith, asked.2)) c.unset.ensures.worn,
+          (omega (arith, asked.0.1)) c.unset.ensures.worn,
     )

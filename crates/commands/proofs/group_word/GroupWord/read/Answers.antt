@@ -14,23 +14,23 @@ returns-in_err-first c =
     (no_first c.args.bytes.now c.in_ok-next.field-0.bytes.now (left c.next.new.self) (first (goal.at.returns-in_err-first c).In_ok-next)
     c.in_err-first.ensures)
 
-pub returns-in_err-read-in-Some-None : goal.returns-in_err-read-in-Some-None
-returns-in_err-read-in-Some-None c =
-    rw c.from_residual-in_err-read-in-Some-None.ensures
-    (no_second c.args.bytes.now c.in_ok-next.field-0.bytes.now (left c.next.new.self) (first (goal.at.returns-in_err-read-in-Some-None c).In_ok-next)
-    c.in-Some-None.second.bytes.now (left c.next-2.new.self) c.in-Some-None.ensures.steps.first c.in_err-read-in-Some-None.ensures)
+pub returns-in_err-second-in-Some-None : goal.returns-in_err-second-in-Some-None
+returns-in_err-second-in-Some-None c =
+    rw c.from_residual-in_err-second-in-Some-None.ensures
+    (no_second c.args.bytes.now c.in_ok-next.field-0.bytes.now (left c.next.new.self) (first (goal.at.returns-in_err-second-in-Some-None c).In_ok-next)
+    c.in-Some-None.piece.bytes.now (left c.next-2.new.self) c.in-Some-None.ensures.steps.first c.in_err-second-in-Some-None.ensures)
 
 pub returns-in-None-default : goal.returns-in-None-default
 returns-in-None-default c =
     spells_one c.args.bytes.now c.in_ok-next.field-0.bytes.now (left c.next.new.self) (first (goal.at.returns-in-None-default c).In_ok-next)
     c.in_ok-first.first c.in-None-default.ensures.steps.0 c.in_ok-first.ensures
 
-pub returns-in_ok-read-in-Some-None : goal.returns-in_ok-read-in-Some-None
-returns-in_ok-read-in-Some-None c =
-    let second = c.in-Some-None.second.bytes.now in
-    spells_two c.args.bytes.now c.in_ok-next.field-0.bytes.now (left c.next.new.self) (first (goal.at.returns-in_ok-read-in-Some-None c).In_ok-next)
-    c.in_ok-first.first c.in_ok-read-in-Some-None.field-0 second
-    (c.in-Some-None.ensures.steps.first ∙ ap (λ qs. second ∷ qs) c.in-Some-None.ensures'.steps.0) c.in_ok-first.ensures c.in_ok-read-in-Some-None.ensures
+pub returns-in_ok-second-in-Some-None : goal.returns-in_ok-second-in-Some-None
+returns-in_ok-second-in-Some-None c =
+    let second = c.in-Some-None.piece.bytes.now in
+    spells_two c.args.bytes.now c.in_ok-next.field-0.bytes.now (left c.next.new.self) (first (goal.at.returns-in_ok-second-in-Some-None c).In_ok-next)
+    c.new.result second
+    (c.in-Some-None.ensures.steps.first ∙ ap (λ qs. second ∷ qs) c.in-Some-None.ensures'.steps.0) (rw c.new.ensures.holds.0 c.in_ok-first.ensures) (rw c.new.ensures.holds.1 c.in_ok-second-in-Some-None.ensures)
 
 pub returns-in_default : goal.returns-in_default
 returns-in_default c =

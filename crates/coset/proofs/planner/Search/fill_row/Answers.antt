@@ -13,10 +13,10 @@ loop-s-preserved g c =
     (small s (omega arith)) c.loop-s.invariant best c.put.ensures
   where
     group : Group
-    group = g.G.Group.meaning c.args.self.now.group.now
+    group = g.G.Group.meaning c.args.self.now.code.now.group
 
     laws : Lawful group
-    laws = g.met.G.Group.lawful c.args.self.now.group.now
+    laws = g.met.G.Group.lawful c.args.self.now.code.now.group
 
     label : ℕ
     label = label_of group c.args.cell

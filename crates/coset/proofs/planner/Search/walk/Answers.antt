@@ -9,7 +9,7 @@ use Rattle.coset.proofs.planner.Search.walk.Goals.{then-contains+then-taken-get,
 
 pub loop-cell-init : goal.loop-cell-init
 loop-cell-init g c =
-    let laws = g.met.G.Group.lawful c.args.self.now.group.now in
+    let laws = g.met.G.Group.lawful c.args.self.now.code.now.group in
     walk_starts _ laws c.args.self.now.usable c.args.self.now.cells _ c.args.table.now c.requires.filled c.args.step
     _ c.empty-chosen.ensures c.requires.element c.requires.reached
 
@@ -33,10 +33,10 @@ loop-cell-preserved g c =
     ]
   where
     group : Group
-    group = g.G.Group.meaning c.args.self.now.group.now
+    group = g.G.Group.meaning c.args.self.now.code.now.group
 
     laws : Lawful group
-    laws = g.met.G.Group.lawful c.args.self.now.group.now
+    laws = g.met.G.Group.lawful c.args.self.now.code.now.group
 
     usable : Usable group
     usable = c.args.self.now.usable
@@ -52,7 +52,7 @@ loop-cell-preserved g c =
 
 pub returns : goal.returns
 returns g c =
-    let laws = g.met.G.Group.lawful c.args.self.now.group.now in
+    let laws = g.met.G.Group.lawful c.args.self.now.code.now.group in
     record {
       plan =
           walk_ends _ laws c.args.self.now.usable c.args.self.now.cells _ c.args.table.now c.requires.filled c.args.step

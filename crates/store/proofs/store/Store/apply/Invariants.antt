@@ -10,5 +10,5 @@ invariant-loop-call g l =
     Keeps g.A.CellArray.held g.A.CellArray.intact l.initial.self l.self
     × (vec_len l.answers ≡ l.call-index)
     × (length l.calls ≤ vec_capacity l.answers)
-    × Runs (code (g.G.Group.meaning l.initial.self.group) l.initial.self.n) (state_of (g.A.CellArray.cells l.initial.self.array) l.initial.self.ledger)
+    × Runs (code (g.G.Group.meaning l.initial.self.code.group) l.initial.self.code.cells) (state_of (g.A.CellArray.cells l.initial.self.array) l.initial.self.ledger)
     (map g.C.Request.call (take l.call-index l.calls)) (vec_items l.answers) (state_of (g.A.CellArray.cells l.self.array) l.self.ledger)

@@ -6,11 +6,11 @@ use Rattle.store.proofs.store.Store.find.Goals as goal
 
 pub read-held-requires : goal.read-held-requires
 read-held-requires g c =
-    found_inside (code (g.G.Group.meaning c.args.self.now.group) c.args.self.now.n) (g.A.CellArray.cells c.args.self.now.array) c.args.«record» c.in_ok-place.place c.in_ok-place.ensures
+    found_inside (code (g.G.Group.meaning c.args.self.now.code.group) c.args.self.now.code.cells) (g.A.CellArray.cells c.args.self.now.array) c.args.«record» c.in_ok-place.place c.in_ok-place.ensures
 
 pub returns : goal.returns
 returns g c =
-    let co = code (g.G.Group.meaning c.args.self.now.group) c.args.self.now.n in
+    let co = code (g.G.Group.meaning c.args.self.now.code.group) c.args.self.now.code.cells in
     let m = g.A.CellArray.cells c.args.self.now.array in
     let found = c.in_ok-place.ensures in
     let read = members_of c.read-held.result in

@@ -1,6 +1,5 @@
 use Rattle.std.proofs.Common.{◌≡◌, ◌/◌, ◌%◌, not, sym, ap, ◌∙◌, subst, arith}
 use Rattle.std.proofs.lemmas.Bool.{cond-true, cond-false, eq-eqb, ne_eqb}
-use Rattle.std.proofs.lemmas.List.{length-set}
 use Rattle.coset.specs.Code.{code, every, Plan}
 use Rattle.coset.specs.CellSets.{members_of}
 use Rattle.calls.proofs.Geometry.{there}
@@ -13,37 +12,35 @@ use Rattle.store.proofs.store.Store.plan_page.Goals.{then-r-record, else-r-recor
 
 pub value_at-target-requires : goal.value_at-target-requires
 value_at-target-requires g c =
-    let co = code (g.G.Group.meaning c.args.self.now.group) c.args.self.now.n in
+    let co = code (g.G.Group.meaning c.args.self.now.code.group) c.args.self.now.code.cells in
     let m = g.A.CellArray.cells c.args.self.now.array in
     let t = there co m c.args.«record» c.requires in
     let few = t.few in
     let shared = c.per_page-records.ensures ∙ records_to_page co m c.args.«record» c.requires in
     record {
       page = rw shared t.page;
-      cells = rows_within c.args.self.now.n c.loop-r.r c.per_page-records.result m.width c.loop-r-test.true (page_fits c.args.self.now.n m.width c.per_page-records.result (omega (arith, shared)));
+      cells = rows_within c.args.self.now.code.cells c.loop-r.r c.per_page-records.result m.width c.loop-r-test.true (page_fits c.args.self.now.code.cells m.width c.per_page-records.result (omega (arith, shared)));
       few = omega arith;
     }
 
 pub loop-r-preserved : goal.loop-r-preserved
 loop-r-preserved g c =
-    let co = code (g.G.Group.meaning c.args.self.now.group) c.args.self.now.n in
+    let co = code (g.G.Group.meaning c.args.self.now.code.group) c.args.self.now.code.cells in
     let m = g.A.CellArray.cells c.args.self.now.array in
     let t = there co m c.args.«record» c.requires in
     let few = t.few in
     let shared = c.per_page-records.ensures ∙ records_to_page co m c.args.«record» c.requires in
     let page = c.args.«record» / c.per_page-records.result in
     let named = c.args.«record» % c.per_page-records.result in
-    let plan = c.in_ok-plans.field-0 in
+    let plan = c.in_ok-plan.field-0 in
     let lt = c.loop-r-test.true in
-    let len = c.loop-r.invariant.0 in
     let is : c.if-r-record.target ≡ target co m page named c.args.value c.loop-r.r =
     elim c.if-r-record.branch [
       | then-r-record w ↦ w.target-is ∙ sym (cond-true _ _ _ (eq-eqb c.loop-r.r named w.if-r-record.true))
       | else-r-record w ↦ w.target-is ∙ w.value_at-target.ensures ∙ sym (cond-false _ _ _ (ne_eqb c.loop-r.r named w.if-r-record.false))
-    ] in (
-      length-set c.loop-r.plans c.loop-r.r plan ∙ len,
-      page_more co m page named c.args.value c.loop-r.r c.loop-r.plans plan (omega (arith, shared)) c.loop-r.invariant.1
-          (subst (λ d. Plan co every d (members_of plan)) is
-          (plan_free co (members_of c.complement-all.result) every c.if-r-record.target (members_of plan)
-          (λ i h. c.complement-all.ensures i (omega arith) ∙ ap not (c.empty-empty.ensures i)) c.in_ok-plans.ensures)),
-    )
+    ] in
+    rw c.push.ensures.items
+    (page_more co m page named c.args.value c.loop-r.r c.loop-r.plans.items plan c.loop-r.invariant
+    (subst (λ d. Plan co every d (members_of plan)) is
+    (plan_free co (members_of c.complement-all.result) every c.if-r-record.target (members_of plan)
+    (λ i h. c.complement-all.ensures i (omega arith) ∙ ap not (c.empty.ensures i)) c.in_ok-plan.ensures)))

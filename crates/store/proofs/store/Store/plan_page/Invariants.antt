@@ -1,9 +1,8 @@
-use Rattle.std.proofs.Common.{◌≡◌, ◌%◌, length}
-use Rattle.coset.specs.Code.{code}
+use Rattle.std.proofs.Common.{◌%◌}
+use Rattle.coset.specs.Codes.{code_of}
 use Rattle.store.specs.Steps.{PlansOfPage}
 use Rattle.store.proofs.store.Store.plan_page.Given as goal
 
 abbrev pub invariant-loop-r : goal.invariant-loop-r
 invariant-loop-r g l =
-    (length l.plans ≡ 64)
-    × PlansOfPage (code (g.G.Group.meaning l.self.group) l.self.n) (g.A.CellArray.cells l.self.array) l.page (l.«record» % l.records) l.value l.r l.plans
+    PlansOfPage (code_of g.G.Group.meaning l.self.code) (g.A.CellArray.cells l.self.array) l.page (l.«record» % l.records) l.value l.r l.plans.items

@@ -8,5 +8,5 @@ use Rattle.store.proofs.store.Store.value_at.Goals as goal
 pub returns : goal.returns
 returns g c =
     c.label_sum.ensures
-    ∙ sum_agree (code (g.G.Group.meaning c.args.self.now.group) c.args.self.now.n) (members_of c.read.result)
-    (cells_from (g.A.CellArray.cells c.args.self.now.array) c.args.at) c.args.self.now.n c.read.ensures
+    ∙ sum_agree (code (g.G.Group.meaning c.args.self.now.code.group) c.args.self.now.code.cells) (members_of c.read.result)
+    (cells_from (g.A.CellArray.cells c.args.self.now.array) c.args.at) c.args.self.now.code.cells c.read.ensures
