@@ -17,7 +17,7 @@ pub enum Command<T> {
 }
 
 impl<'a> Command<Word<'a>> {
-    // The command of a line with its words, which are parts of the script.
+    // The command of a line with its words, which are parts of the script. By cases, since a letter is data.
     pub fn in_words(line: &'a [u8]) -> Result<Command<Word<'a>>, Refusal>
         ensures { Reading (form_spots command_words line.now) (Commands line.now) result }
     {
@@ -43,7 +43,7 @@ impl<'a> Command<Word<'a>> {
 pub type Order = Command<Number>;
 
 impl Command<Number> {
-    // A line that is an order is that order written out, byte for byte.
+    // A line that is an order is that order written out, byte for byte. By cases, since each has words of its own.
     pub fn read(line: &[u8]) -> Result<Order, Refusal>
         ensures { Reading (line_spots line.now) (Orders line.now) result }
     {

@@ -25,22 +25,12 @@ label_of g i = 1 + i % (g.order - 1)
 
 -- the entry of a table for cell i and element s
 abbrev pub fewest_at : Table → ℕ → ℕ → ℕ
-fewest_at table i s = slice_index (slice_index_or table.fewest i []) s
+fewest_at table i s = slice_index (slice_index_or table.rows i []) s
 
 -- The entry of a cell for the element s, by the row of the next cell: the cell is left out, or taken if that is better
 -- and it is free.
 abbrev pub turn : Group → ℕ → Bool → (ℕ → ℕ) → ℕ → ℕ
 turn g label free next s = cond free (min (next s) (min (next (step g label s) + 1) 255)) (next s)
-
--- One entry is written, and the others stay.
-pub record Puts (i s count : ℕ) (before after : Table) : Type 0 where
-  pub here : fewest_at after i s ≡ count
-  pub others : (j t : ℕ) → t < 64 → (j ≡ i → t ≢ s) → fewest_at after j t ≡ fewest_at before j t
-
--- The entries of cell i for the elements below `end` are written from the next cell's row, and the other rows stay.
-pub record Fills (g : Group) (free : Cellset) (i end : ℕ) (before after : Table) : Type 0 where
-  pub row : (s : ℕ) → s < end → fewest_at after i s ≡ turn g (label_of g i) (free i) (fewest_at before (i + 1)) s
-  pub others : (j s : ℕ) → s < 64 → (j ≢ i) → fewest_at after j s ≡ fewest_at before j s
 
 -- The rows of a table from cell `first` on: past the last cell only 0 is reached, and by no cell; each cell's row comes
 -- from the next one's.

@@ -15,6 +15,15 @@ pub struct Code<G> {
     pub cells: usize,
 }
 
+impl<G> Code<G> {
+    pub fn new(group: G, cells: usize) -> Code<G>
+        ensures group { result.group ≡ group }
+        ensures cells { result.cells ≡ cells }
+    {
+        Code { group, cells }
+    }
+}
+
 impl<G: Group> Code<G> {
     // The label of a cell. An order has 32 bits, and so no `From` into an index; that the casts lose nothing is proved.
     pub(crate) fn label(&self, cell: usize) -> u32

@@ -1,10 +1,10 @@
 // The planner: the fewest free cells of a record whose labels sum to a given element.
 // A table of the fewest cells, by cell and element, is filled from the last cell to the first, and then walked back.
-ghost use Rattle.std.specs.Prelude.{◌≡◌, ℕ, ◌+◌, ◌-◌, ◌<◌, ◌≤◌};
-ghost use Rattle.group.specs.Group.{In, Usable};
+ghost use Rattle.std.specs.Prelude.{◌≡◌, ℕ, ◌+◌, ◌-◌, ◌<◌, ◌≤◌, ◌==◌, min, replicate, slice_index};
+ghost use Rattle.group.specs.Group.{In, Usable, step};
 ghost use Rattle.coset.specs.CellSets.{members_of};
 ghost use Rattle.coset.specs.Code.{Plan};
-ghost use Rattle.coset.specs.Plans.{Plans, First, Puts, Fills, Filled, fewest_at};
+ghost use Rattle.coset.specs.Plans.{Plans, First, Filled, fewest_at, label_of};
 
 use crate::cellset::{CellSet, MAX_CELLS};
 use crate::code::Code;
@@ -18,18 +18,21 @@ const ROWS: usize = 64;
 
 const ELEMENTS: usize = 64;
 
-// Entry s of row i: the fewest of the free cells from cell i on that sum to s. The rules give the table this size.
+// A row of the table, with an entry for each element: the fewest of the free cells from some cell on that sum to it.
+type Row = [u8; ELEMENTS];
+
+// Row i is that of the cells from cell i on. The rules give the table this size.
 #[derive(Clone, Copy)]
 struct Table {
-    fewest: [[u8; ELEMENTS]; ROWS],
+    rows: [Row; ROWS],
 }
 
 impl Table {
     fn unreached() -> Self
-        ensures { (i s : ℕ) → i < 64 → s < 64 → fewest_at result i s ≡ 255 }
+        ensures { result.rows ≡ replicate ROWS (replicate ELEMENTS 255) }
     {
         Table {
-            fewest: [[UNREACHED; ELEMENTS]; ROWS],
+            rows: [[UNREACHED; ELEMENTS]; ROWS],
         }
     }
 
@@ -39,16 +42,7 @@ impl Table {
         requires s_bound { s < 64 }
         ensures { result ≡ fewest_at self.now cell s }
     {
-        self.fewest[cell][s as usize]
-    }
-
-    fn put(&mut self, cell: usize, s: u32, count: u8)
-        requires cell_bound { cell < 64 }
-        requires s_bound { s < 64 }
-        ensures { Puts cell s count self.old self.new }
-    {
-        let row = &mut self.fewest[cell];
-        row[s as usize] = count;
+        self.rows[cell][s as usize]
     }
 }
 
@@ -70,7 +64,8 @@ impl<G: Group> Code<G> {
             cells: self.cells.min(MAX_CELLS),
             free,
         };
-        let table = search.table();
+        let mut table = Table::unreached();
+        search.fill(&mut table);
         if table.get(0, step) == UNREACHED {
             return None;
         }
@@ -91,37 +86,35 @@ struct Search<'a, G: Group> {
 impl<G: Group> Search<'_, G> {
     ghost use Rattle.coset.specs.Searches.{searched};
 
-    // A loop, since each row is filled from the one that was filled before it.
-    fn table(&self) -> Table
-        ensures { Filled (searched self.now) (members_of self.now.free.now) result 0 }
+    // Past the last cell 0 alone is reached, by no cell. A loop, since each row is filled from the one before it.
+    fn fill(&self, table: &mut Table)
+        ensures { Filled (searched self.now) (members_of self.now.free.now) table.new 0 }
     {
-        let mut table = Table::unreached();
-        table.put(self.cells, 0, 0);
+        let mut none = [UNREACHED; ELEMENTS];
+        none[0] = 0;
+        table.rows[self.cells] = none;
         for cell in (0..self.cells).rev() {
-            self.fill_row(&mut table, cell);
+            let next = table.rows[cell + 1];
+            table.rows[cell] = if self.free.contains(cell) {
+                best(&next, &self.moved(cell, &next))
+            } else {
+                next
+            };
         }
-        table
     }
 
-    // The row of a cell, from that of the next: leaving the cell out, or taking it. A loop over the elements, which are
-    // numbers, and no values in memory to go over.
-    fn fill_row(&self, table: &mut Table, cell: usize)
-        requires { cell < self.now.cells }
-        ensures { Fills (G.Group.meaning self.now.code.now.group) (members_of self.now.free.now) cell (G.Group.meaning self.now.code.now.group).order table.old table.new }
+    // The next cell's row, with each entry at the element that a cell's label takes it to. A loop over the elements,
+    // which are numbers, and no values in memory to go over.
+    fn moved(&self, cell: usize, next: &Row) -> Row
+        ensures { (s : ℕ) → In (G.Group.meaning self.now.code.now.group) s → slice_index result s ≡ slice_index next.now (step (G.Group.meaning self.now.code.now.group) (label_of (G.Group.meaning self.now.code.now.group) cell) s) }
     {
         let opposite = self.code.group.opposite(self.code.label(cell));
-        let is_free = self.free.contains(cell);
+        let mut moved = *next;
         for s in 0..self.code.group.order() {
-            let left_out = table.get(cell + 1, s);
             let rest = self.code.group.sum(s, opposite);
-            let taken = table.get(cell + 1, rest).saturating_add(1);
-            let best = if is_free {
-                left_out.min(taken)
-            } else {
-                left_out
-            };
-            table.put(cell, s, best);
+            moved[s as usize] = next[rest as usize];
         }
+        moved
     }
 
     // From the first cell on, a cell is taken wherever the fewest cells from it on can do with it. A loop, since each
@@ -145,4 +138,16 @@ impl<G: Group> Search<'_, G> {
         }
         chosen
     }
+}
+
+// The row of a free cell: the better of leaving it out and of taking it, which is one cell more. It is a loop of its
+// own, over all entries, of which the compiler makes a few wide instructions.
+fn best(left_out: &Row, taken: &Row) -> Row
+    ensures { (s : ℕ) → s < 64 → slice_index result s ≡ min (slice_index left_out.now s) (min (slice_index taken.now s + 1) 255) }
+{
+    let mut best = *left_out;
+    for s in 0..ELEMENTS {
+        best[s] = left_out[s].min(taken[s].saturating_add(1));
+    }
+    best
 }

@@ -36,7 +36,13 @@ impl Group for Integers {
 
     fn sum(&self, a: u32, b: u32) -> u32 {
         if self.has(a) && self.has(b) {
-            (a + b) % self.modulus
+            // Less than twice the modulus. A division would take several times as long.
+            let sum = a + b;
+            if sum < self.modulus {
+                sum
+            } else {
+                sum - self.modulus
+            }
         } else {
             0
         }

@@ -12,7 +12,7 @@ use Rattle.cells.specs.Cells.{Cells, Alike}
 use Rattle.cells.specs.Rows.{Served}
 use Rattle.images.specs.Image.{count_bytes, limit_of, bit, reads, width_at, pages_at, page_bytes, page_at, pages_of, width_of, count_of, wear_of, decoded}
 use Rattle.images.specs.Check.{image_rows, Checks}
-use Rattle.images.specs.Written.{Writable, digit, bit_for, page_byte, written, Exact, ReadBack}
+use Rattle.images.specs.Written.{Writable, digit, bit_for, page_byte, written, Exact, ReadBack, WrittenOut}
 use Rattle.images.proofs.Tables.{served_not_refused}
 use Rattle.images.proofs.ByteBits.{byte_of_bits, byte_same, bit_for_read, digits_of}
 use Rattle.images.proofs.Writing.{written_length, written_pages, written_count, written_width_high, written_width_low, written_page}
@@ -147,6 +147,10 @@ pub exact : (f : Format) (xs : List ℕ) → ((i : ℕ) → get_or xs i 0 < 256)
 exact f xs small (Ok l) checks = (writable f xs small checks.0, accepted f xs small checks.0)
 exact f xs small (Err e) refused = λ m ok same.
     served_not_refused (image_rows f xs) (image_number e) (subst (λ ys. Served (image_rows f ys)) (sym same) (written_served f m ok)) refused
+
+pub written_out : (f : Format) (xs : List ℕ) (r : Result Layout ImageFault) → Checks f xs r → Exact f xs r → WrittenOut f xs
+written_out f xs (Ok l) checks is = λ _. is
+written_out f xs (Err e) checks is = λ served. absurd (served_not_refused (image_rows f xs) (image_number e) served checks)
 
 pub reads_back : (f : Format) (xs : List ℕ) → ReadBack f xs
 reads_back f xs m ok same = subst (λ ys. Alike m (decoded f ys)) (sym same) (read_back f m ok)

@@ -129,7 +129,7 @@ module _ (f : Format) (l : Layout) (xs : List ℕ) (p i at y : ℕ) (found : Fin
 
 -- What a part reads an image as, accepted or refused.
 module _ (f : Format) (xs : List ℕ) (l : Layout) where
-  reads_accepted : Accepted f l xs → ReadsAs f xs l
+  pub reads_accepted : Accepted f l xs → ReadsAs f xs l
   reads_accepted was =
       let good = layout_good f l xs was in
       record {

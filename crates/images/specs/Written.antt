@@ -3,6 +3,8 @@ use Rattle.std.specs.Prelude.{◌≡◌, ℕ, ◌+◌, ◌-◌, ◌*◌, ◌/◌
 use Rattle.std.specs.List.{range_with_len}
 use Rattle.images.specs.declared.format.Format.{Format}
 use Rattle.cells.specs.Cells.{Cells, Alike}
+use Rattle.cells.specs.Rows.{Served}
+use Rattle.images.specs.Check.{image_rows}
 use Rattle.images.specs.Image.{count_bytes, limit_of, set_bit, page_bytes, decoded}
 
 -- the meanings that an image can hold
@@ -51,3 +53,7 @@ Exact f xs (Err e) = (m : Cells) → Writable f m → xs ≢ written f m
 -- Whatever meaning the bytes are the writing-out of, they are read back as it.
 abbrev pub ReadBack : Format → List ℕ → Type 0
 ReadBack f xs = (m : Cells) → Writable f m → xs ≡ written f m → Alike m (decoded f xs)
+
+-- The bytes of a good image are the writing-out of its cells.
+abbrev pub WrittenOut : Format → List ℕ → Type 0
+WrittenOut f xs = Served (image_rows f xs) → Writable f (decoded f xs) × (xs ≡ written f (decoded f xs))

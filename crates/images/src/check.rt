@@ -3,7 +3,7 @@
 ghost use Rattle.std.specs.Prelude.{◌≡◌, ℕ, ◌<◌, ◌≤◌, length, Decides};
 ghost use Rattle.images.specs.Image.{size, pages_of, width_of};
 ghost use Rattle.images.specs.Check.{first_rows, counts_rows, wear_rows, width_rows, body_rows, Stray, Checks, ReadsAs, Passes};
-ghost use Rattle.images.specs.Written.{Exact, ReadBack};
+ghost use Rattle.images.specs.Written.{Exact, ReadBack, WrittenOut};
 
 use crate::fault::ImageFault;
 use crate::flash;
@@ -24,7 +24,8 @@ impl Format {
     // The layout of an accepted image. A refused one has by the rules no pages and no width, which is a layout too, and
     // so this is no `Option`.
     pub(crate) fn layout_of(self, image: &[u8]) -> Layout
-        ensures { ReadsAs self image.now result }
+        ensures reads { ReadsAs self image.now result }
+        ensures written { WrittenOut self image.now }
     {
         self.check(image).unwrap_or(Layout::NONE)
     }

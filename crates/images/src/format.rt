@@ -9,6 +9,7 @@ pub enum Format {
     Flash,
 }
 
+// Here and in the check the formats differ by cases, since a format is data.
 impl Format {
     // The bytes of a page's wear count.
     pub fn count_bytes(self) -> usize

@@ -4,9 +4,11 @@ ghost use Rattle.std.specs.Prelude.{◌≡◌, [], ◌∷◌};
 ghost use Rattle.images.specs.declared.format.Format.{Format};
 ghost use Rattle.cells.specs.Device.{Kept, Marks};
 ghost use Rattle.images.specs.Image.{part_cells, part_bounded};
-ghost use Rattle.images.specs.Check.{Accepted, ReadsAs};
+ghost use Rattle.images.specs.Check.{Accepted, Checks, ReadsAs};
+ghost use Rattle.images.specs.Written.{WrittenOut};
 ghost use Rattle.images.specs.Bytes.{Finds, MarksBytes};
 
+use crate::fault::ImageFault;
 use crate::format::Format;
 use crate::layout::Layout;
 use cells::array::CellArray;
@@ -33,6 +35,7 @@ impl<'a, K: Kind> Part<'a, K> {
         ensures lent { result.image.ghost_name ≡ image.entry.ghost_name }
         ensures bytes { result.image.now ≡ image.old }
         ensures meaning { ReadsAs K.FORMAT image.old result.layout }
+        ensures written { WrittenOut K.FORMAT image.old }
     {
         let layout = K::FORMAT.layout_of(image);
         Part {
@@ -40,6 +43,13 @@ impl<'a, K: Kind> Part<'a, K> {
             layout,
             kind: PhantomData,
         }
+    }
+
+    // What the check says of the bytes.
+    pub fn check(&self) -> Result<Layout, ImageFault>
+        ensures { Checks K.FORMAT self.now.image.now result }
+    {
+        K::FORMAT.check(self.image)
     }
 
     // The byte that holds a cell.

@@ -20,6 +20,7 @@ impl<G: Group> Named<'_, G> {
     // Plans for a record with these cells set, and prints what it would set. The words here and below are this
     // program's own, and each is printed once, so that no `Display` would be shorter.
     fn show(&self, rt: &HostRuntime, set: &[usize], target: u32) -> io::Result<()> {
+        // Cell by cell, which is the only way into a set.
         let mut held = CellSet::empty();
         for cell in set {
             held.insert(*cell);
@@ -45,10 +46,7 @@ fn print_cells(rt: &HostRuntime, set: &CellSet) -> io::Result<()> {
 fn main(rt: HostRuntime) -> io::Result<()> {
     let z7 = Named {
         name: "Z7, 6 cells",
-        code: Code {
-            group: Integers::new(7),
-            cells: 6,
-        },
+        code: Code::new(Integers::new(7), 6),
     };
     z7.show(&rt, &[], 3)?;
     z7.show(&rt, &[2], 6)?;
@@ -57,18 +55,12 @@ fn main(rt: HostRuntime) -> io::Result<()> {
     z7.show(&rt, &[0, 1, 2, 3, 4, 5], 0)?;
     let x2 = Named {
         name: "X2, 3 cells",
-        code: Code {
-            group: Vectors::new(2),
-            cells: 3,
-        },
+        code: Code::new(Vectors::new(2), 3),
     };
     x2.show(&rt, &[0], 0)?;
     let z4 = Named {
         name: "Z4, 1 cell",
-        code: Code {
-            group: Integers::new(4),
-            cells: 1,
-        },
+        code: Code::new(Integers::new(4), 1),
     };
     z4.show(&rt, &[], 2)?;
     z4.show(&rt, &[], 1)

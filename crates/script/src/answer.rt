@@ -34,7 +34,7 @@ fn obey<G: Group, A: Erasable>(store: &mut Store<G, A>, line: Line) -> Result<Re
     carry_out(store, line.number, order)
 }
 
-// Makes the calls of an order.
+// Makes the calls of an order. By cases, since an order is data, and which calls it makes is all that it says.
 fn carry_out<G: Group, A: Erasable>(
     store: &mut Store<G, A>,
     line: usize,

@@ -26,7 +26,7 @@ pub enum Cause {
 }
 
 impl Cause {
-    // that of the fault within
+    // By cases, since each holds another fault, whose own number it is.
     pub fn number(self) -> u32
         ensures { result ≡ cause_number self }
     {
@@ -38,7 +38,7 @@ impl Cause {
         }
     }
 
-    // the letter of the place of the check
+    // The letter of the place of the check, by cases, as the table of refusals has it.
     pub fn letter(self) -> &'static str
         ensures { result.now ≡ cause_letter self }
     {

@@ -34,10 +34,7 @@ fn main(rt: HostRuntime) -> anyhow::Result<()> {
 
 // Makes a store over the array, applies the calls to it, and prints what they did.
 fn show_run<A: Erasable>(rt: &HostRuntime, array: &mut A, calls: &[Call]) -> anyhow::Result<()> {
-    let code = Code {
-        group: Integers::new(7),
-        cells: 6,
-    };
+    let code = Code::new(Integers::new(7), 6);
     let run = run_calls(rt.alloc(), code, array, calls)?;
     for (call, answer) in calls.iter().zip(run.answers.iter()) {
         show_call(rt, *call, *answer)?;

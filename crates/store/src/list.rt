@@ -27,6 +27,7 @@ pub trait Request<A: CellArray> {
         ensures obeys { Obeys (code_of G.Group.meaning store.old.code) (call self.now) result (state A.CellArray.cells store.old) (state A.CellArray.cells store.new) };
 }
 
+// By cases, since a call is data.
 impl<A: Erasable> Request<A> for Call {
     ghost call = { λ c. c };
 

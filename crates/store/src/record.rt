@@ -59,9 +59,7 @@ impl<G: Group, A: CellArray> Store<G, A> {
     {
         let mut set = CellSet::empty();
         for cell in 0..self.code.cells {
-            if self.array.is_set(at.page, at.first + cell) {
-                set.insert(cell);
-            }
+            set.assign(cell, self.array.is_set(at.page, at.first + cell));
         }
         set
     }

@@ -2,7 +2,9 @@
 // The array is lent, so that its owner has it again with all that the calls left there.
 ghost use Rattle.std.specs.Prelude.{◌≡◌, map, IfOk, OnErr};
 ghost use Rattle.cells.specs.Device.{Kept};
-ghost use Rattle.calls.specs.Calls.{state_of};
+ghost use Rattle.calls.specs.Calls.{state_of, Obeys};
+ghost use Rattle.calls.specs.declared.ledger.Ledger.{Ledger as Counts};
+ghost use Rattle.coset.specs.Codes.{code_of};
 ghost use Rattle.calls.specs.Ledger.{blank};
 ghost use Rattle.calls.specs.Promise.{Promise};
 ghost use Rattle.calls.specs.Runs.{as_call};
@@ -56,6 +58,26 @@ pub fn run_accesses<G: Group + Drop, A: CellArray>(
     let (array, run) = apply_to(heap, code, array, accesses);
     let _ = array;
     run
+}
+
+// Makes a store over an array that can be erased, and makes one call on it. It never allocates.
+pub fn run_call<G: Group + Drop, A: Erasable>(
+    code: Code<G>,
+    array: &mut A,
+    call: Call,
+) -> Result<u32, StoreFault>
+    ensures kept { Kept A.CellArray.held A.CellArray.intact array.old array.new }
+    ensures obeys { (counts : Counts) × Obeys (code_of G.Group.meaning code) call result (state_of (A.CellArray.cells array.old) blank) (state_of (A.CellArray.cells array.new) counts) }
+{
+    let mut store = Store::new(code, array);
+    let answer = call.serve(&mut store);
+    let Store {
+        code: _code,
+        array,
+        ledger: _,
+    } = store;
+    let _ = array;
+    answer
 }
 
 // Makes a store over an array, applies a list of calls to it, and gives the array back.

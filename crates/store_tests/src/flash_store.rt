@@ -1,6 +1,7 @@
 // The store over a flash image: the bytes that calls write, the wear counts, and images that are refused.
 // A set cell is a 0 bit.
 use crate::runs::*;
+use coset::code::Code;
 use group::integers::Integers;
 use group::vectors::Vectors;
 use images::flash::FlashPart;
@@ -13,7 +14,7 @@ fn one_record_to_a_page(rt: HostRuntime) -> Result<(), Fail> {
     let counted = check_calls(
         &rt,
         rt.alloc(),
-        code(Integers::new(7), 6),
+        Code::new(Integers::new(7), 6),
         &mut FlashPart::over(&mut image),
         &[
             (put(0, 3), Ok(1)),
@@ -46,7 +47,7 @@ fn records_by_pages_and_width(rt: HostRuntime) -> Result<(), Fail> {
     for (pages, width, n, records) in cases {
         let mut image = fresh_flash(rt.alloc(), pages, width)?;
         let part = FlashPart::over(&mut image);
-        check_records(&rt, code(Integers::new(7), n), part, records)?;
+        check_records(&rt, Code::new(Integers::new(7), n), part, records)?;
     }
     Ok(())
 }
@@ -62,7 +63,7 @@ fn the_last_of_the_most_records(rt: HostRuntime) -> Result<(), Fail> {
     check_calls(
         &rt,
         rt.alloc(),
-        code(Integers::new(2), 1),
+        Code::new(Integers::new(2), 1),
         &mut FlashPart::over(&mut image),
         &[(put(4_095, 1), Ok(1)), (put(4_096, 1), no_record(4_096))],
     )?;
@@ -76,7 +77,13 @@ fn the_last_renewal_of_a_page(rt: HostRuntime) -> Result<(), Fail> {
     let mut image = [2, 0, 0, 0, 0, 0, 0, 0x27, 0x0f, 0, 6, 0xff, 0xc5];
     let last = [(renew(3, 3), Ok(2))];
     let mut part = FlashPart::over(&mut image);
-    let counted = check_calls(&rt, rt.alloc(), code(Vectors::new(2), 3), &mut part, &last)?;
+    let counted = check_calls(
+        &rt,
+        rt.alloc(),
+        Code::new(Vectors::new(2), 3),
+        &mut part,
+        &last,
+    )?;
     assert_eq!(rt; counted, ledger(0, 1, 2));
     assert_eq!(rt; image, [2, 0, 0, 0, 0, 0, 0, 0x27, 0x10, 0, 6, 0xff, 0xdd]);
     let past = [
@@ -86,7 +93,13 @@ fn the_last_renewal_of_a_page(rt: HostRuntime) -> Result<(), Fail> {
         (get(3), Ok(0)),
     ];
     let mut part = FlashPart::over(&mut image);
-    let counted = check_calls(&rt, rt.alloc(), code(Vectors::new(2), 3), &mut part, &past)?;
+    let counted = check_calls(
+        &rt,
+        rt.alloc(),
+        Code::new(Vectors::new(2), 3),
+        &mut part,
+        &past,
+    )?;
     assert_eq!(rt; counted, ledger(1, 0, 2), "the put alone is counted");
     assert_eq!(rt; image, [2, 0, 0, 0, 0, 0, 0, 0x27, 0x10, 0, 6, 0xff, 0xc5]);
     Ok(())
@@ -100,7 +113,7 @@ fn refusals_go_in_order_and_write_nothing(rt: HostRuntime) -> Result<(), Fail> {
     let counted = check_calls(
         &rt,
         rt.alloc(),
-        code(Integers::new(4), 1),
+        Code::new(Integers::new(4), 1),
         &mut FlashPart::over(&mut image),
         &[
             (get(2), no_record(2)),
@@ -133,7 +146,7 @@ fn over_refused_bytes_there_are_no_records(rt: HostRuntime) -> Result<(), Fail> 
         check_no_records(
             &rt,
             rt.alloc(),
-            code(Integers::new(7), 6),
+            Code::new(Integers::new(7), 6),
             &mut FlashPart::over(&mut image),
         )?;
         assert_eq!(rt; image.as_slice(), bytes);

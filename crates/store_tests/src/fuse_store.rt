@@ -1,7 +1,8 @@
 // The store over a fuse image: gets and puts alone, since nothing there is ever erased.
 // A set cell is a 1 bit.
-use crate::runs::{check_accesses, code, full, ledger, no_record, no_value};
+use crate::runs::{check_accesses, full, ledger, no_record, no_value};
 use calls::call::Access;
+use coset::code::Code;
 use group::integers::Integers;
 use group::vectors::Vectors;
 use images::fuse::FuseBank;
@@ -24,7 +25,7 @@ fn fuses_that_are_set_already(rt: HostRuntime) -> Result<(), Fail> {
     let counted = check_accesses(
         &rt,
         rt.alloc(),
-        code(Integers::new(7), 6),
+        Code::new(Integers::new(7), 6),
         &mut FuseBank::over(&mut image),
         &[
             (get(0), Ok(1)),
@@ -51,7 +52,7 @@ fn fuses_fill_up(rt: HostRuntime) -> Result<(), Fail> {
     let counted = check_accesses(
         &rt,
         rt.alloc(),
-        code(Vectors::new(2), 3),
+        Code::new(Vectors::new(2), 3),
         &mut FuseBank::over(&mut image),
         &[
             (put(0, 1), Ok(1)),
@@ -77,7 +78,7 @@ fn over_refused_bytes_there_are_no_records(rt: HostRuntime) -> Result<(), Fail> 
         let counted = check_accesses(
             &rt,
             rt.alloc(),
-            code(Integers::new(7), 6),
+            Code::new(Integers::new(7), 6),
             &mut FuseBank::over(&mut image),
             &[(get(0), no_record(0)), (put(0, 0), no_record(0))],
         )?;

@@ -4,6 +4,7 @@ use crate::runs::*;
 use calls::call::Access;
 use cells::array::CellArray;
 use cells::bench::Bench;
+use coset::code::Code;
 use group::integers::Integers;
 use group::vectors::Vectors;
 use images::flash::FlashPart;
@@ -17,7 +18,7 @@ fn a_history_with_every_kind_of_call(rt: HostRuntime) -> Result<(), Fail> {
     let counted = check_calls(
         &rt,
         rt.alloc(),
-        code(Vectors::new(2), 3),
+        Code::new(Vectors::new(2), 3),
         &mut FlashPart::over(&mut image),
         &[
             (put(0, 1), Ok(1)),
@@ -45,10 +46,22 @@ fn a_history_with_every_kind_of_call(rt: HostRuntime) -> Result<(), Fail> {
 fn no_calls(rt: HostRuntime) -> Result<(), Fail> {
     let mut bench = Bench::new();
     bench.mark(0, 4)?;
-    let called = check_calls(&rt, rt.alloc(), code(Vectors::new(2), 3), &mut bench, &[])?;
+    let called = check_calls(
+        &rt,
+        rt.alloc(),
+        Code::new(Vectors::new(2), 3),
+        &mut bench,
+        &[],
+    )?;
     assert_eq!(rt; called, ledger(0, 0, 0));
     assert_eq!(rt; called.rate(), None);
-    let accessed = check_accesses(&rt, rt.alloc(), code(Vectors::new(2), 3), &mut bench, &[])?;
+    let accessed = check_accesses(
+        &rt,
+        rt.alloc(),
+        Code::new(Vectors::new(2), 3),
+        &mut bench,
+        &[],
+    )?;
     assert_eq!(rt; accessed, ledger(0, 0, 0));
     assert_eq!(rt;
         set_cells(rt.alloc(), &bench, 0)?.as_slice(),
@@ -60,7 +73,7 @@ fn no_calls(rt: HostRuntime) -> Result<(), Fail> {
 // The second list goes on from the first, and so does each call that is made alone.
 #[test]
 fn lists_and_calls_on_one_store(rt: HostRuntime) -> Result<(), Fail> {
-    let mut store = Store::new(code(Vectors::new(2), 3), Bench::new());
+    let mut store = Store::new(Code::new(Vectors::new(2), 3), Bench::new());
     assert_eq!(rt; store.records(), 42);
     assert_eq!(rt;
         store.apply(rt.alloc(), &[put(41, 3), get(41)])?.as_slice(),

@@ -4,6 +4,7 @@ use crate::runs::*;
 use cells::array::CellArray;
 use cells::bench::Bench;
 use cells::paired::Paired;
+use coset::code::Code;
 use group::integers::Integers;
 use group::product::Product;
 use group::vectors::Vectors;
@@ -19,7 +20,7 @@ fn check_makings<A: CellArray>(
 ) {
     for (modulus, n, outcome) in cases {
         assert_eq!(rt;
-            check_making(&code(Integers::new(*modulus), *n), array),
+            check_making(&Code::new(Integers::new(*modulus), *n), array),
             *outcome,
             "modulo {modulus}, n = {n}"
         );
@@ -59,18 +60,24 @@ fn the_first_row_that_holds_is_answered(rt: HostRuntime) {
 #[test]
 fn groups_of_every_kind_are_checked(rt: HostRuntime) {
     let bench = Bench::new();
-    assert_eq!(rt; check_making(&code(Vectors::new(6), 63), &bench), Ok(()));
     assert_eq!(rt;
-        check_making(&code(Vectors::new(7), 63), &bench),
+        check_making(&Code::new(Vectors::new(6), 63), &bench),
+        Ok(())
+    );
+    assert_eq!(rt;
+        check_making(&Code::new(Vectors::new(7), 63), &bench),
         Err(MakingFault::Unusable)
     );
     let eight = Integers::new(8);
     assert_eq!(rt;
-        check_making(&code(Product::new(eight, eight), 63), &bench),
+        check_making(&Code::new(Product::new(eight, eight), 63), &bench),
         Ok(())
     );
     assert_eq!(rt;
-        check_making(&code(Product::new(eight, Integers::new(9)), 63), &bench),
+        check_making(
+            &Code::new(Product::new(eight, Integers::new(9)), 63),
+            &bench
+        ),
         Err(MakingFault::Unusable)
     );
 }
@@ -81,11 +88,21 @@ fn a_store_made_against_its_check_has_no_records(rt: HostRuntime) -> Result<(), 
     mark_all(&mut bench, 0, &[5, 6])?;
     let cases = [(65, 6), (1, 1), (7, 0), (7, 64), (7, usize::MAX), (0, 0)];
     for (modulus, n) in cases {
-        check_no_records(&rt, rt.alloc(), code(Integers::new(modulus), n), &mut bench)?;
+        check_no_records(
+            &rt,
+            rt.alloc(),
+            Code::new(Integers::new(modulus), n),
+            &mut bench,
+        )?;
     }
-    check_no_records(&rt, rt.alloc(), code(Vectors::new(7), 6), &mut bench)?;
+    check_no_records(&rt, rt.alloc(), Code::new(Vectors::new(7), 6), &mut bench)?;
     check_page(&rt, rt.alloc(), &bench, 0, &[5, 6], 0)?;
     let mut narrow = Paired::new(bench);
-    check_no_records(&rt, rt.alloc(), code(Integers::new(7), 33), &mut narrow)?;
+    check_no_records(
+        &rt,
+        rt.alloc(),
+        Code::new(Integers::new(7), 33),
+        &mut narrow,
+    )?;
     check_page(&rt, rt.alloc(), &narrow, 0, &[2, 3], 0)
 }

@@ -5,6 +5,7 @@ use calls::call::Call;
 use cells::array::Erasable;
 use cells::bench::Bench;
 use cells::paired::Paired;
+use coset::code::Code;
 use group::vectors::Vectors;
 use images::flash::FlashPart;
 use std::alloc::Global;
@@ -23,7 +24,7 @@ fn check_call<A: Erasable + Drop>(
     check_calls(
         rt,
         heap,
-        code(Vectors::new(2), 3),
+        Code::new(Vectors::new(2), 3),
         &mut paired,
         &[(call, answer)],
     )?;
@@ -40,7 +41,7 @@ fn pairs_of_a_bench_part(rt: HostRuntime) -> Result<(), Fail> {
     let counted = check_calls(
         &rt,
         rt.alloc(),
-        code(Vectors::new(2), 3),
+        Code::new(Vectors::new(2), 3),
         &mut paired,
         &[
             (put(0, 3), Ok(1)),

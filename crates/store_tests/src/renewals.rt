@@ -2,6 +2,7 @@
 // The part has two pages of 64 cells, each good for three erases.
 use crate::runs::*;
 use cells::bench::Bench;
+use coset::code::Code;
 use group::integers::Integers;
 use group::vectors::Vectors;
 use std::test::Fail;
@@ -14,7 +15,7 @@ fn records_lie_in_a_row(rt: HostRuntime) -> Result<(), Fail> {
     let counted = check_calls(
         &rt,
         rt.alloc(),
-        code(Integers::new(7), 6),
+        Code::new(Integers::new(7), 6),
         &mut bench,
         &[
             (put(0, 1), Ok(1)),
@@ -45,7 +46,7 @@ fn a_renewal_keeps_the_other_records(rt: HostRuntime) -> Result<(), Fail> {
     let counted = check_calls(
         &rt,
         rt.alloc(),
-        code(Integers::new(7), 6),
+        Code::new(Integers::new(7), 6),
         &mut bench,
         &[
             (put(13, 5), full(13)),
@@ -71,7 +72,7 @@ fn the_fourth_renewal_of_a_page_is_refused(rt: HostRuntime) -> Result<(), Fail> 
     let counted = check_calls(
         &rt,
         rt.alloc(),
-        code(Vectors::new(2), 3),
+        Code::new(Vectors::new(2), 3),
         &mut bench,
         &[
             (put(0, 3), Ok(1)),

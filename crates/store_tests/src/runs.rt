@@ -15,11 +15,6 @@ use store::store::Store;
 
 pub type Answer = Result<u32, StoreFault>;
 
-// The code of a group, with so many cells to a record.
-pub fn code<G>(group: G, cells: usize) -> Code<G> {
-    Code { group, cells }
-}
-
 // Makes a store over the array and applies the calls. Each must get the answer that stands beside it.
 pub fn check_calls<G: Group + Drop, A: Erasable>(
     rt: &impl Abort,

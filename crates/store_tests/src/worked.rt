@@ -46,7 +46,7 @@ fn integers_modulo_seven(rt: HostRuntime) -> Result<(), Fail> {
     check_examples(
         &rt,
         rt.alloc(),
-        code(Integers::new(7), 6),
+        Code::new(Integers::new(7), 6),
         &[
             (&[0, 4], get(0), Ok(6), &[&[0, 4]]),
             (&[], put(0, 3), Ok(1), &[&[2]]),
@@ -67,7 +67,7 @@ fn binary_vectors_and_a_product(rt: HostRuntime) -> Result<(), Fail> {
     check_examples(
         &rt,
         rt.alloc(),
-        code(Vectors::new(2), 3),
+        Code::new(Vectors::new(2), 3),
         &[
             (&[0], put(0, 0), Ok(2), &[&[0, 1, 2]]),
             (&[0, 1], get(0), Ok(3), &[&[0, 1]]),
@@ -77,7 +77,7 @@ fn binary_vectors_and_a_product(rt: HostRuntime) -> Result<(), Fail> {
     check_examples(
         &rt,
         rt.alloc(),
-        code(Product::new(Integers::new(2), Integers::new(3)), 5),
+        Code::new(Product::new(Integers::new(2), Integers::new(3)), 5),
         &[
             (&[3, 4], get(0), Ok(0), &[&[3, 4]]),
             (&[3], put(0, 0), Ok(1), &[&[3, 4]]),
@@ -92,7 +92,7 @@ fn labels_start_again_at_one(rt: HostRuntime) -> Result<(), Fail> {
     check_examples(
         &rt,
         rt.alloc(),
-        code(Integers::new(3), 5),
+        Code::new(Integers::new(3), 5),
         &[
             (&[2], get(0), Ok(1), &[&[2]]),
             (&[3], get(0), Ok(2), &[&[3]]),
@@ -116,7 +116,7 @@ fn one_cell_modulo_four(rt: HostRuntime) -> Result<(), Fail> {
     let counted = check_calls(
         &rt,
         rt.alloc(),
-        code(Integers::new(4), 1),
+        Code::new(Integers::new(4), 1),
         &mut bench,
         &[
             (put(0, 2), full(0)),
@@ -144,7 +144,7 @@ fn the_widest_record(rt: HostRuntime) -> Result<(), Fail> {
     let counted = check_calls(
         &rt,
         rt.alloc(),
-        code(Integers::new(64), 63),
+        Code::new(Integers::new(64), 63),
         &mut bench,
         &[
             (put(0, 63), Ok(1)),

@@ -16,9 +16,9 @@ returns-then-not-has g c =
 pub returns-then-get : goal.returns-then-get
 returns-then-get g c =
     let laws = g.met.G.Group.lawful c.args.self.now.group in
-    let full : fewest_at c.table-table.result 0 c.args.step ≡ 255 = omega arith in
+    let full : fewest_at c.fill.new.table 0 c.args.step ≡ 255 = omega arith in
     more_unreachable _ c.min.result c.args.self.now.cells (omega arith) _ (λ j l h. none_beyond c.args.free.now j (omega arith)) c.args.step
-    (entry_unreachable _ laws (search rules) c.min.result _ c.table-table.result c.table-table.ensures (omega arith) c.args.step full)
+    (entry_unreachable _ laws (search rules) c.min.result _ c.fill.new.table c.fill.ensures (omega arith) c.args.step full)
 
 pub returns : goal.returns
 returns g c =
