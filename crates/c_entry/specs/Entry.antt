@@ -1,0 +1,58 @@
+-- What a call on the bytes of a flash image answers, and what it leaves there. Assumes nothing.
+use Rattle.std.specs.Prelude.{◌≡◌, ℕ, ◌+◌, ◌≤◌, cond, ◌⊎◌, List, ◌++◌, Ok, Err, Result, ◌==◌}
+use Rattle.group.specs.Group.{Group}
+use Rattle.group.specs.Integers.{integers}
+use Rattle.group.specs.Vectors.{vectors}
+use Rattle.cells.specs.Rows.{Row, Refused, Served}
+use Rattle.images.specs.declared.format.Format.TheVariants.{Flash}
+use Rattle.images.specs.Image.{decoded}
+use Rattle.images.specs.Check.{image_rows}
+use Rattle.images.specs.Written.{written}
+use Rattle.coset.specs.Code.{code}
+use Rattle.calls.specs.declared.call.Call.{Call}
+use Rattle.calls.specs.declared.ledger.Ledger.{Ledger}
+use Rattle.calls.specs.Ledger.{blank}
+use Rattle.calls.specs.Records.{making_rows}
+use Rattle.calls.specs.Calls.{rows, state_of, Obeys}
+use Rattle.c_entry.specs.declared.fault.EntryFault.{EntryFault}
+use Rattle.c_entry.specs.Faults.{entry_number}
+
+-- The group of a kind and a parameter: 0 for integers, 1 for vectors. Any other kind names the integers modulo 0, which
+-- cannot be used.
+abbrev pub named : ℕ → ℕ → Group
+named k m = cond (k == 0) (integers m) (cond (k == 1) (vectors m) (integers 0))
+
+-- The checks of a call on the image xs, in their order: those of the image, of the making, and of the call.
+abbrev pub entry_rows : Group → ℕ → Call → List ℕ → List Row
+entry_rows g n call xs = image_rows Flash xs ++ (making_rows g (decoded Flash xs) n ++ rows (code g n) (decoded Flash xs) call)
+
+-- A served call on the image xs, which is ys afterwards: the call obeys the rules of a store whose cells are those of the
+-- image, with a ledger that nobody keeps. Before and afterwards the image is the writing-out of its cells, so that every
+-- byte is known from them.
+pub record ServedOn (g : Group) (n : ℕ) (call : Call) (xs ys : List ℕ) (a : ℕ) : Type 0 where
+  pub served : Served (entry_rows g n call xs)
+  pub counts : Ledger
+  pub obeys : Obeys (code g n) call (Ok a) (state_of (decoded Flash xs) blank) (state_of (decoded Flash ys) counts)
+  pub good : Served (image_rows Flash ys)
+  pub was : xs ≡ written Flash (decoded Flash xs)
+  pub bytes : ys ≡ written Flash (decoded Flash ys)
+  pub small : a ≤ 1024
+
+-- A refused call, by the first row that holds; every byte is as it was.
+pub record RefusedOn (g : Group) (n : ℕ) (call : Call) (xs ys : List ℕ) (k : ℕ) : Type 0 where
+  pub refused : Refused (entry_rows g n call xs) k
+  pub bytes : ys ≡ xs
+
+-- the answer, with the fault of a refusal
+abbrev pub Answers : Group → ℕ → Call → List ℕ → List ℕ → Result ℕ EntryFault → Type 0
+Answers g n call xs ys (Ok a) = ServedOn g n call xs ys a
+Answers g n call xs ys (Err f) = RefusedOn g n call xs ys (entry_number f)
+
+-- the number that stands for an answer
+abbrev pub told : Result ℕ EntryFault → ℕ
+told (Ok a) = a
+told (Err f) = 10000 + entry_number f
+
+-- The number that the caller is told: the value or the count of a served call, or 10,000 and the number of the refusal.
+abbrev pub Enters : Group → ℕ → Call → List ℕ → List ℕ → ℕ → Type 0
+Enters g n call xs ys a = ServedOn g n call xs ys a ⊎ ((k : ℕ) × RefusedOn g n call xs ys k × (a ≡ 10000 + k))
