@@ -1,0 +1,693 @@
+//! Compares the C entry under test with the plain version over many pseudo-random calls.
+//!
+//! The first argument is the seed of the generator, the second one the number of rounds. A round is either a few
+//! unlike calls on one image, good or bad, or a sequence of calls that use up the cells of one image and wear out its
+//! pages. The first disagreement ends the run with status 1 and is printed with its arguments and its image.
+//!
+//! If a third argument `trace` is given, each call is printed to standard error before it is made. So the last line
+//! shows the call in which a side crashed or did not come back.
+
+use std::collections::BTreeMap;
+use std::fmt::{self, Write};
+use std::hint::black_box;
+use std::process::ExitCode;
+use std::time::Instant;
+
+use compare::sample::{erased_image, set_some_cells, Random, Shape};
+use compare::{foreign, plain};
+
+const SEED: u64 = 1982;
+const ROUNDS: u64 = 100_000;
+
+/// Answers from here on are refusals.
+const REFUSED: u32 = 10_000;
+
+fn main() -> ExitCode {
+    let words: Vec<String> = std::env::args().skip(1).collect();
+    let number = |index: usize| words.get(index).map(|word| word.parse().expect("seed and rounds are whole numbers"));
+    let seed = number(0).unwrap_or(SEED);
+    let rounds = number(1).unwrap_or(ROUNDS);
+    let trace = words.get(2).is_some_and(|word| word == "trace");
+    let start = Instant::now();
+    let mut run = Run { random: Random::new(seed), counts: Counts::default(), image: Vec::new(), trace };
+    for round in 0..rounds {
+        if let Err(disagreement) = run.round() {
+            println!("disagreement in round {round} with seed {seed}:\n{disagreement}");
+            return ExitCode::FAILURE;
+        }
+    }
+    println!("seed {seed}, {rounds} rounds, {:.1} s\n{}", start.elapsed().as_secs_f64(), run.counts);
+    let missing = run.counts.missing();
+    if !missing.is_empty() {
+        println!("never occurred: {}", missing.join(", "));
+        return ExitCode::FAILURE;
+    }
+    println!("no disagreement");
+    ExitCode::SUCCESS
+}
+
+#[derive(Clone, Copy, Debug, PartialEq, Eq, PartialOrd, Ord)]
+enum Action {
+    Get,
+    Put,
+    Renew,
+}
+
+const ACTIONS: [Action; 3] = [Action::Get, Action::Put, Action::Renew];
+
+/// The arguments that name a code.
+#[derive(Clone, Copy, Debug)]
+struct Code {
+    kind: u32,
+    parameter: u32,
+    n: u32,
+}
+
+#[derive(Clone, Copy, Debug)]
+struct Call {
+    action: Action,
+    code: Code,
+    record: u32,
+    /// Not used by a get.
+    value: u32,
+}
+
+impl Call {
+    fn by_plain(&self, image: &mut [u8]) -> u32 {
+        let Call { action, code: Code { kind, parameter, n }, record, value } = *self;
+        match action {
+            Action::Get => plain::get(kind, parameter, n, record, image),
+            Action::Put => plain::put(kind, parameter, n, record, value, image),
+            Action::Renew => plain::renew(kind, parameter, n, record, value, image),
+        }
+    }
+
+    fn by_foreign(&self, image: &mut [u8]) -> u32 {
+        let Call { action, code: Code { kind, parameter, n }, record, value } = *self;
+        match action {
+            Action::Get => foreign::get(kind, parameter, n, record, image),
+            Action::Put => foreign::put(kind, parameter, n, record, value, image),
+            Action::Renew => foreign::renew(kind, parameter, n, record, value, image),
+        }
+    }
+}
+
+/// The state of a run: each call starts from the image that the C entry left behind in the call before.
+struct Run {
+    random: Random,
+    counts: Counts,
+    image: Vec<u8>,
+    trace: bool,
+}
+
+impl Run {
+    fn round(&mut self) -> Result<(), String> {
+        match self.random.between(1, 24) {
+            1 => self.wearing_sequence(),
+            2..=3 => {
+                self.image = any_image(&mut self.random);
+                let code = good_code(Shape::of(&self.image).width, &mut self.random);
+                self.mixed_sequence(code)
+            }
+            4 => {
+                let code = scarce_code(&mut self.random);
+                self.image = scarce_image(code, &mut self.random);
+                self.mixed_sequence(code)
+            }
+            5..=12 => {
+                self.image = any_image(&mut self.random);
+                spoil(&mut self.image, &mut self.random);
+                self.unlike_calls()
+            }
+            _ => {
+                self.image = any_image(&mut self.random);
+                self.unlike_calls()
+            }
+        }
+    }
+
+    /// A few calls, each with a code of its own.
+    fn unlike_calls(&mut self) -> Result<(), String> {
+        for _ in 0..8 {
+            let shape = plain::check(&self.image).map_or(Shape { pages: 1, width: 8 }, |_| Shape::of(&self.image));
+            let code = any_code(shape.width, &mut self.random);
+            let call = any_call(code, shape, &mut self.random);
+            self.compare(&call)?;
+        }
+        Ok(())
+    }
+
+    /// Calls of all kinds with one code, mostly on a few records.
+    fn mixed_sequence(&mut self, code: Code) -> Result<(), String> {
+        let shape = Shape::of(&self.image);
+        for _ in 0..self.random.between(10, 200) {
+            let call = any_call(code, shape, &mut self.random);
+            self.compare(&call)?;
+        }
+        Ok(())
+    }
+
+    /// Puts on a small image that is close to its end of life, with a renewal when a record is full, until a renewal
+    /// is refused because the page is worn out.
+    fn wearing_sequence(&mut self) -> Result<(), String> {
+        let random = &mut self.random;
+        let wears: Vec<u32> = (0..random.between(1, 3)).map(|_| random.between(9_980, 10_000)).collect();
+        self.image = erased_image(&wears, any_width(random).min(260));
+        let shape = Shape::of(&self.image);
+        let code = good_code(shape.width, random);
+        let mut left = 2_000;
+        let mut worn_out = 0;
+        while left > 0 && worn_out < 4 {
+            left -= 1;
+            let record = any_record(code, shape, &mut self.random);
+            let value = any_value(code, &mut self.random);
+            let put = Call { action: Action::Put, code, record, value };
+            if self.compare(&put)? == plain::Fault::Full as u32 + REFUSED {
+                let answer = self.compare(&Call { action: Action::Renew, ..put })?;
+                worn_out += u32::from(answer == plain::Fault::WornOut as u32 + REFUSED);
+            }
+            self.compare(&Call { action: Action::Get, ..put })?;
+        }
+        Ok(())
+    }
+
+    /// Makes one call on both sides, compares them and goes on from the image of the C entry.
+    fn compare(&mut self, call: &Call) -> Result<u32, String> {
+        if self.trace {
+            eprintln!("{call:?} on {}", hex(&self.image));
+        }
+        let mut by_plain = self.image.clone();
+        let mut by_foreign = Fenced::around(&self.image, &mut self.random);
+        let trial = Trial {
+            call: *call,
+            plain_answer: call.by_plain(&mut by_plain),
+            foreign_answer: call.by_foreign(black_box(by_foreign.image())),
+            before: &self.image,
+            plain_after: &by_plain,
+            foreign_after: black_box(&mut by_foreign).image(),
+        };
+        trial.judge().map_err(|reason| format!("{reason}\n{trial}"))?;
+        let answer = trial.plain_answer;
+        if !by_foreign.is_whole() {
+            return Err(format!("bytes outside the image were written\n{call:?}\nimage {}", hex(&self.image)));
+        }
+        self.counts.add(call.action, answer, self.image != by_foreign.image());
+        self.image.copy_from_slice(by_foreign.image());
+        Ok(answer)
+    }
+}
+
+/// A copy of an image with other bytes before and after it, so that a write outside the image is seen.
+struct Fenced {
+    bytes: Vec<u8>,
+    fence: [u8; FENCE],
+    start: usize,
+    end: usize,
+}
+
+const FENCE: usize = 32;
+
+impl Fenced {
+    /// The image starts at any of 16 alignments.
+    fn around(image: &[u8], random: &mut Random) -> Self {
+        let mut fence = [0; FENCE];
+        for bytes in fence.chunks_exact_mut(8) {
+            bytes.copy_from_slice(&random.word().to_le_bytes());
+        }
+        let start = random.between(16, 31) as usize;
+        let end = start + image.len();
+        let bytes = [&fence[..start], image, &fence].concat();
+        Fenced { bytes, fence, start, end }
+    }
+
+    fn image(&mut self) -> &mut [u8] {
+        &mut self.bytes[self.start..self.end]
+    }
+
+    fn is_whole(&self) -> bool {
+        self.bytes[..self.start] == self.fence[..self.start] && self.bytes[self.end..] == self.fence
+    }
+}
+
+/// One call on both sides, each from the same image.
+struct Trial<'a> {
+    call: Call,
+    plain_answer: u32,
+    foreign_answer: u32,
+    before: &'a [u8],
+    plain_after: &'a [u8],
+    foreign_after: &'a [u8],
+}
+
+impl Trial<'_> {
+    fn judge(&self) -> Result<(), String> {
+        if self.plain_answer != self.foreign_answer {
+            return Err("the answers differ".to_string());
+        }
+        for (side, after) in [("plain", self.plain_after), ("C entry", self.foreign_after)] {
+            self.judge_image(after).map_err(|reason| format!("{side}: {reason}"))?;
+        }
+        Ok(())
+    }
+
+    /// Whether an image is what the call may leave behind. The answer is known to be the same on both sides. As the
+    /// plain side counts the fewest cells, an image with so many cells set has the fewest.
+    fn judge_image(&self, after: &[u8]) -> Result<(), &'static str> {
+        if self.call.action == Action::Get || self.plain_answer >= REFUSED {
+            return require(after == self.before, "a get or a refused call altered the image");
+        }
+        require(plain::check(after).is_ok(), "the image is no longer good")?;
+        let shape = Shape::of(self.before);
+        require(Shape::of(after) == shape, "the counts of the image are altered")?;
+        let records = Records::of(self.call.code, shape);
+        match self.call.action {
+            Action::Get => Ok(()),
+            Action::Put => self.judge_put(after, shape, records),
+            Action::Renew => self.judge_renewal(after, shape, records),
+        }
+    }
+
+    /// After an accepted put: only cells of the record changed, from unset to set, as many as the answer says.
+    fn judge_put(&self, after: &[u8], shape: Shape, records: Records) -> Result<(), &'static str> {
+        let Place { page, first } = records.place(self.call.record);
+        let mut expected = self.before.to_vec();
+        let mut marked = 0;
+        for cell in first..first + records.n {
+            let byte = shape.byte_of(page, cell);
+            let bit = 1 << (cell % 8);
+            require(self.before[byte] & bit != 0 || after[byte] & bit == 0, "a set cell of the record is unset")?;
+            marked += u32::from((self.before[byte] ^ after[byte]) & bit != 0);
+            expected[byte] = expected[byte] & !bit | after[byte] & bit;
+        }
+        require(after == expected, "something outside the record is altered")?;
+        require(marked == self.plain_answer, "the answer is not the number of cells marked")?;
+        require(self.value(after, self.call.record) == self.call.value, "the record does not have the value")
+    }
+
+    /// After an accepted renewal: the page holds its values from before and the new one in cells of its records, its
+    /// wear is one higher, and all else is as before.
+    fn judge_renewal(&self, after: &[u8], shape: Shape, records: Records) -> Result<(), &'static str> {
+        let page = records.place(self.call.record).page;
+        let mut expected = self.before.to_vec();
+        expected[1 + 4 * page..5 + 4 * page].copy_from_slice(&(shape.wear(self.before, page) + 1).to_be_bytes());
+        let cells = shape.page_start(page)..shape.page_start(page + 1);
+        expected[cells.clone()].copy_from_slice(&after[cells]);
+        require(after == expected, "something outside the page and its wear count is wrong")?;
+        let is_set = |&cell: &usize| after[shape.byte_of(page, cell)] >> (cell % 8) & 1 == 0;
+        require((records.used_cells()..shape.width).filter(is_set).count() == 0, "a cell outside the records is set")?;
+        let marked = (0..shape.width).filter(is_set).count();
+        require(marked == self.plain_answer as usize, "the answer is not the number of set cells of the page")?;
+        let records_of_page = records.to_page * page as u32..records.to_page * (page as u32 + 1);
+        for record in records_of_page {
+            let named = record == self.call.record;
+            let value = if named { self.call.value } else { self.value(self.before, record) };
+            require(self.value(after, record) == value, "a record of the page has a wrong value")?;
+        }
+        Ok(())
+    }
+
+    fn value(&self, image: &[u8], record: u32) -> u32 {
+        let Code { kind, parameter, n } = self.call.code;
+        plain::get(kind, parameter, n, record, image)
+    }
+}
+
+impl fmt::Display for Trial<'_> {
+    fn fmt(&self, f: &mut fmt::Formatter) -> fmt::Result {
+        writeln!(f, "{:?}", self.call)?;
+        writeln!(f, "answers: plain {}, C entry {}", self.plain_answer, self.foreign_answer)?;
+        writeln!(f, "image before: {}", hex(self.before))?;
+        writeln!(f, "after, plain: {}", hex(self.plain_after))?;
+        write!(f, "after, C entry: {}", hex(self.foreign_after))
+    }
+}
+
+fn require(holds: bool, otherwise: &'static str) -> Result<(), &'static str> {
+    holds.then_some(()).ok_or(otherwise)
+}
+
+fn hex(bytes: &[u8]) -> String {
+    bytes.iter().fold(String::new(), |mut text, byte| {
+        write!(text, "{byte:02X}").expect("a string takes any text");
+        text
+    })
+}
+
+/// How the records of a code lie on the pages of an image.
+#[derive(Clone, Copy)]
+struct Records {
+    n: usize,
+    to_page: u32,
+}
+
+struct Place {
+    page: usize,
+    first: usize,
+}
+
+impl Records {
+    /// The number of cells to a record is known to be from 1 to the width.
+    fn of(code: Code, shape: Shape) -> Self {
+        let n = code.n as usize;
+        Records { n, to_page: (shape.width / n).min(64) as u32 }
+    }
+
+    fn place(self, record: u32) -> Place {
+        let first = (record % self.to_page) as usize * self.n;
+        Place { page: (record / self.to_page) as usize, first }
+    }
+
+    /// The cells of a page from here on belong to no record.
+    fn used_cells(self) -> usize {
+        self.to_page as usize * self.n
+    }
+}
+
+/// A good image, mostly a small one.
+fn any_image(random: &mut Random) -> Vec<u8> {
+    let pages = match random.between(1, 32) {
+        1 => 64,
+        2..=3 => random.between(1, 64),
+        _ => random.between(1, 4),
+    };
+    let wears: Vec<u32> = (0..pages).map(|_| any_wear(random)).collect();
+    let mut image = erased_image(&wears, any_width(random));
+    let fill = random.between(0, 24);
+    for page in 0..wears.len() {
+        let sixteenths = match fill {
+            // Each page has a fill of its own, from no cells to all of them.
+            17.. => random.pick(&[0, 0, 1, 4, 8, 12, 15, 16, 16]),
+            fill => fill,
+        };
+        set_some_cells(&mut image, page, sixteenths, random);
+    }
+    image
+}
+
+/// A good image whose records have cells of a few labels unset and all others set, so that plans of many cells occur.
+fn scarce_image(code: Code, random: &mut Random) -> Vec<u8> {
+    let wears: Vec<u32> = (0..random.between(1, 3)).map(|_| any_wear(random)).collect();
+    let to_page = random.between(1, 8);
+    let mut image = erased_image(&wears, (code.n * to_page + random.between(0, 9)) as u16);
+    let shape = Shape::of(&image);
+    for page in 0..shape.pages {
+        for record in 0..to_page {
+            let highest = random.between(1, 12);
+            let step = random.between(1, 3);
+            let is_scarce = |cell: u32| {
+                let label = 1 + cell % (order(code.kind, code.parameter) - 1);
+                label > highest || !label.is_multiple_of(step)
+            };
+            for cell in (0..code.n).filter(|&cell| is_scarce(cell)).map(|cell| (record * code.n + cell) as usize) {
+                image[shape.byte_of(page, cell)] &= !(1 << (cell % 8));
+            }
+        }
+    }
+    image
+}
+
+fn any_wear(random: &mut Random) -> u32 {
+    match random.between(0, 4) {
+        0 => random.between(0, 10_000),
+        1 => random.pick(&[0, 1, 255, 256, 9_983, 9_984]),
+        2 => random.between(9_990, 10_000),
+        _ => random.pick(&[9_999, 10_000]),
+    }
+}
+
+fn any_width(random: &mut Random) -> u16 {
+    let width = match random.between(1, 16) {
+        1 => random.pick(&[1, 2, 7, 8, 9, 15, 16, 17, 62, 63, 64, 65, 126, 127, 128, 129, 255, 256, 257]),
+        2 => random.pick(&[511, 512, 513, 1_007, 1_008, 1_009, 1_016, 1_022, 1_023, 1_024]),
+        3 => random.between(1, 1_024),
+        4..=6 => random.between(60, 200),
+        _ => random.between(1, 64),
+    };
+    width as u16
+}
+
+/// Spoils an image in up to three ways.
+fn spoil(image: &mut Vec<u8>, random: &mut Random) {
+    if random.once_in(16) {
+        *image = (0..random.between(0, 40)).map(|_| random.number() as u8).collect();
+        if let Some(pages) = image.first_mut() {
+            *pages &= 7;
+        }
+        return;
+    }
+    let shape = Shape::of(image);
+    for _ in 0..random.pick(&[1, 1, 1, 2, 3]) {
+        match random.between(0, 6) {
+            0 => set_byte(image, 0, random.pick(&[0, 0, 65, 66, 128, 255])),
+            1 => spoil_wear(image, shape, random),
+            2 => spoil_width(image, shape, random),
+            3 => spoil_unused_bits(image, shape, random),
+            4 => image.extend((0..random.between(1, 9)).map(|_| random.pick(&[0, 0xFF]))),
+            _ => truncate(image, shape, random),
+        }
+    }
+}
+
+/// Sets a byte if the image has it still.
+fn set_byte(image: &mut [u8], at: usize, byte: u8) {
+    if let Some(place) = image.get_mut(at) {
+        *place = byte;
+    }
+}
+
+fn spoil_wear(image: &mut [u8], shape: Shape, random: &mut Random) {
+    let page = random.between(0, shape.pages as u32 - 1) as usize;
+    let wear = match random.between(0, 2) {
+        0 => 10_001,
+        1 => random.between(10_001, u32::MAX),
+        // Also counts that are low in their last bytes only, and those of the limit in the other order of bytes.
+        _ => random.pick(&[0x0001_0000, 0x0100_0000, 0x8000_0000, 0x1027_0000, 0x0001_2710, u32::MAX]),
+    };
+    for (byte, at) in wear.to_be_bytes().into_iter().zip(1 + 4 * page..) {
+        set_byte(image, at, byte);
+    }
+}
+
+fn spoil_width(image: &mut [u8], shape: Shape, random: &mut Random) {
+    let random_width = random.number() as u16;
+    let width = random.pick(&[0, 1, 0x0100, 0x0400, 1_025, 1_032, 0x8008, u16::MAX, random_width]);
+    set_byte(image, 1 + 4 * shape.pages, (width >> 8) as u8);
+    set_byte(image, 2 + 4 * shape.pages, width as u8);
+}
+
+/// Makes an unused bit of some page 0, if there is one.
+fn spoil_unused_bits(image: &mut [u8], shape: Shape, random: &mut Random) {
+    let used = shape.width % 8;
+    if used != 0 {
+        let page = random.between(0, shape.pages as u32 - 1) as usize;
+        let at = shape.page_start(page + 1) - 1;
+        let bit = random.between(used as u32, 7);
+        if let Some(place) = image.get_mut(at) {
+            *place &= !(1 << bit);
+        }
+    }
+}
+
+/// Cuts an image off in or beside a section, or anywhere.
+fn truncate(image: &mut Vec<u8>, shape: Shape, random: &mut Random) {
+    let counts = 1 + 4 * shape.pages as u32;
+    let length = image.len() as u32;
+    let anywhere = random.between(0, length);
+    let in_wears = random.between(1, counts);
+    let page = random.between(0, shape.pages as u32 - 1) as usize;
+    let between_pages = shape.page_start(page) as u32;
+    let last = length.saturating_sub(1);
+    let places = [0, 1, in_wears, counts - 1, counts, counts + 1, counts + 2, between_pages, last, anywhere];
+    image.truncate(random.pick(&places) as usize);
+}
+
+/// A code whose records fit on a page of that width. Mostly every nonzero element is the label of some cell.
+fn good_code(width: usize, random: &mut Random) -> Code {
+    let most = width.min(63) as u32;
+    let (kind, mut parameter) = good_group(random);
+    while order(kind, parameter) > most + 1 && !random.once_in(4) {
+        parameter = (parameter / 2).max(2 - kind);
+    }
+    let least = (order(kind, parameter) - 1).min(most);
+    let n = match random.between(0, 7) {
+        0..=2 => least,
+        3 => most,
+        4 => random.between(1, 8),
+        5 => random.between(1, most),
+        _ => random.between(least, most),
+    };
+    Code { kind, parameter, n: n.min(most) }
+}
+
+/// A code for records with few labels unset: for half of them the integers, where plans of many cells are more common.
+fn scarce_code(random: &mut Random) -> Code {
+    match random.between(0, 3) {
+        0 => Code { kind: 0, parameter: random.between(2, 64), n: 63 },
+        1 => Code { kind: 0, parameter: random.between(30, 64), n: random.between(8, 12) },
+        _ => good_code(63, random),
+    }
+}
+
+/// Kind and parameter of a usable group.
+fn good_group(random: &mut Random) -> (u32, u32) {
+    match random.between(0, 7) {
+        0 => (0, random.pick(&[2, 3, 4, 5, 7, 8, 16, 31, 32, 63, 64])),
+        1 => (0, random.between(2, 64)),
+        2..=3 => (0, random.between(2, 12)),
+        _ => (1, random.between(1, 6)),
+    }
+}
+
+/// A code that is seldom unusable.
+fn any_code(width: usize, random: &mut Random) -> Code {
+    let mut code = good_code(width, random);
+    if random.once_in(24) {
+        code.kind = random.pick(&[2, 3, 255, 256, 257, 0x0001_0000, 0x0001_0001, 0x8000_0000, u32::MAX]);
+    }
+    if random.once_in(24) {
+        let random_number = random.number();
+        let near = [0, 1, 6, 7, 32, 63, 64, 65, 66, 128];
+        let far = [256 + 3, 256 + 7, 0x0001_0007, 0x8000_0002, u32::MAX, random_number];
+        code.parameter = if random.once_in(2) { random.pick(&near) } else { random.pick(&far) };
+    }
+    if random.once_in(16) {
+        let next = width as u32 + 1;
+        let small = random.between(0, 70);
+        let far = random.pick(&[256 + 6, 0x0001_0001, 0x8000_0001, u32::MAX]);
+        code.n = random.pick(&[0, 63, 64, 65, next, next, small, small, far]);
+    }
+    code
+}
+
+/// The order of a group, or some number if the group is unusable.
+fn order(kind: u32, parameter: u32) -> u32 {
+    match kind {
+        1 => 1 << parameter.min(6),
+        _ => parameter,
+    }
+}
+
+fn any_call(code: Code, shape: Shape, random: &mut Random) -> Call {
+    let action = ACTIONS[random.pick(&[0, 1, 1, 1, 2, 2])];
+    let record = any_record(code, shape, random);
+    Call { action, code, record, value: any_value(code, random) }
+}
+
+/// A record, mostly one of few, at times at the edge or out of range.
+fn any_record(code: Code, shape: Shape, random: &mut Random) -> u32 {
+    let n = code.n.clamp(1, 63) as usize;
+    let to_page = (shape.width / n).min(64) as u32;
+    let records = shape.pages as u32 * to_page;
+    let last = records.saturating_sub(1);
+    match random.between(0, 63) {
+        0 => random.pick(&[records, records, records + 1, last + 256, 0x0001_0000, u32::MAX]),
+        1 => random.number(),
+        2..=3 => last,
+        4..=31 => random.between(0, last),
+        32..=39 => to_page.saturating_sub(1).min(last),
+        _ => random.between(0, last.min(2)),
+    }
+}
+
+/// A value, at times at the edge or out of range.
+fn any_value(code: Code, random: &mut Random) -> u32 {
+    let order = order(code.kind, code.parameter).clamp(1, 256);
+    match random.between(0, 63) {
+        0 => random.pick(&[order, order, order + 1, 64, 65, 256, 0x0001_0000, 0x8000_0000, u32::MAX]),
+        1 => random.number(),
+        2..=3 => order - 1,
+        4..=7 => 0,
+        _ => random.between(0, order - 1),
+    }
+}
+
+/// Puts are counted apart by whether they altered the image.
+#[derive(Clone, Copy, PartialEq, Eq, PartialOrd, Ord)]
+enum Outcome {
+    Served,
+    ServedUnaltered,
+    Refused(u32),
+}
+
+#[derive(Default)]
+struct Counts {
+    calls: BTreeMap<(Outcome, Action), u64>,
+    /// The most cells that one call of each action marked. For a get it is the highest value.
+    most: BTreeMap<Action, u32>,
+}
+
+impl Counts {
+    fn add(&mut self, action: Action, answer: u32, altered: bool) {
+        let outcome = match (answer, altered) {
+            (REFUSED.., _) => Outcome::Refused(answer - REFUSED),
+            (_, true) => Outcome::Served,
+            (_, false) => Outcome::ServedUnaltered,
+        };
+        *self.calls.entry((outcome, action)).or_default() += 1;
+        if answer < REFUSED {
+            let most = self.most.entry(action).or_default();
+            *most = answer.max(*most);
+        }
+    }
+
+    fn of(&self, outcome: Outcome, action: Action) -> u64 {
+        self.calls.get(&(outcome, action)).copied().unwrap_or(0)
+    }
+
+    /// The outcomes that a call can have and that never occurred.
+    fn missing(&self) -> Vec<String> {
+        let possible = rows()
+            .into_iter()
+            .flat_map(|(outcome, text, actions)| actions.iter().map(move |&action| (outcome, text, action)));
+        let never = possible.filter(|&(outcome, _, action)| self.of(outcome, action) == 0);
+        never.map(|(_, text, action)| format!("{action:?}: {text}")).collect()
+    }
+}
+
+/// Every outcome, in words, with the actions that can have it.
+fn rows() -> Vec<(Outcome, &'static str, &'static [Action])> {
+    use plain::Fault::*;
+    let put_and_renew = &ACTIONS[1..];
+    let (get_and_put, put, renew) = (&ACTIONS[..2], &ACTIONS[1..2], &ACTIONS[2..]);
+    let refusals = [
+        (Truncated, "image ends too early", &ACTIONS[..]),
+        (PageCount, "number of pages", &ACTIONS),
+        (Width, "width", &ACTIONS),
+        (TrailingBytes, "bytes after the last page", &ACTIONS),
+        (StrayBit, "unused bit", &ACTIONS),
+        (WearCount, "wear count above the limit", &ACTIONS),
+        (WornOut, "page worn out", renew),
+        (UnusableGroup, "unusable group", &ACTIONS),
+        (RecordSize, "cells to a record", &ACTIONS),
+        (PageTooNarrow, "page narrower than a record", &ACTIONS),
+        (NoRecord, "no such record", &ACTIONS),
+        (NoElement, "value not below the order", put_and_renew),
+        (Full, "record full", put),
+        (PutServes, "put would be accepted", renew),
+        (NeverReached, "value never reached", renew),
+    ];
+    let refused = refusals.map(|(fault, text, actions)| (Outcome::Refused(fault as u32), text, actions));
+    let served = [
+        (Outcome::Served, "served, image altered", put_and_renew),
+        (Outcome::ServedUnaltered, "served, image not altered", get_and_put),
+    ];
+    served.into_iter().chain(refused).collect()
+}
+
+impl fmt::Display for Counts {
+    fn fmt(&self, f: &mut fmt::Formatter) -> fmt::Result {
+        writeln!(f, "{:<38} {:>11} {:>11} {:>11}", "outcome", "get", "put", "renew")?;
+        for (outcome, text, _) in rows() {
+            let number = match outcome {
+                Outcome::Refused(number) => format!("{number}"),
+                Outcome::Served | Outcome::ServedUnaltered => "-".to_string(),
+            };
+            write!(f, "{number:>2} {text:<35}")?;
+            ACTIONS.iter().try_for_each(|&action| write!(f, " {:>11}", self.of(outcome, action)))?;
+            writeln!(f)?;
+        }
+        write!(f, "   {:<35}", "highest answer of a served call")?;
+        ACTIONS.iter().try_for_each(|action| write!(f, " {:>11}", self.most.get(action).unwrap_or(&0)))?;
+        write!(f, "\ncalls: {}", self.calls.values().sum::<u64>())
+    }
+}

@@ -1,0 +1,124 @@
+//! The plain version against examples worked by hand and against a search of all sets of cells.
+
+use compare::plain::{check, get, put, renew, Fault, Layout};
+use compare::sample::{erased_image, Random};
+
+const INTEGERS: u32 = 0;
+const VECTORS: u32 = 1;
+
+/// One page of as many cells as there are in one record, with the given cells set.
+fn record_with(n: u16, set: &[usize]) -> Vec<u8> {
+    let mut image = erased_image(&[0], n);
+    set.iter().for_each(|cell| image[7 + cell / 8] &= !(1 << (cell % 8)));
+    image
+}
+
+fn set_cells(image: &[u8]) -> Vec<usize> {
+    (0..(image.len() - 7) * 8).filter(|cell| image[7 + cell / 8] >> (cell % 8) & 1 == 0).collect()
+}
+
+#[test]
+fn image_check_goes_in_reading_order() {
+    let good = Ok(Layout { pages: 1, width: 6 });
+    let cases: [(&[u8], Result<Layout, Fault>); 14] = [
+        (&[], Err(Fault::Truncated)),
+        (&[0], Err(Fault::PageCount)),
+        (&[0x41], Err(Fault::PageCount)),
+        (&[2, 0, 0, 0x27, 0x11], Err(Fault::WearCount)),
+        (&[2, 0, 0, 0x27], Err(Fault::Truncated)),
+        (&[1, 0, 0, 0, 0, 0], Err(Fault::Truncated)),
+        (&[1, 0, 0, 0, 0, 0, 0], Err(Fault::Width)),
+        (&[1, 0, 0, 0, 0, 0, 6], Err(Fault::Truncated)),
+        (&[1, 0, 0, 0, 0, 0, 6, 0xFF], good),
+        (&[1, 0, 0, 0x27, 0x10, 0, 6, 0xFF], good),
+        (&[1, 0, 0, 0, 0, 0, 6, 0x7F], Err(Fault::StrayBit)),
+        (&[1, 0, 0, 0, 0, 0, 6, 0xFF, 0], Err(Fault::TrailingBytes)),
+        (&[1, 0, 0, 0, 0, 0, 6, 0x7F, 0], Err(Fault::StrayBit)),
+        (&[2, 0, 0, 0, 0, 0, 0, 0, 0, 0, 6, 0x7F], Err(Fault::Truncated)),
+    ];
+    for (image, expected) in cases {
+        assert_eq!(check(image), expected, "{image:02X?}");
+    }
+}
+
+#[test]
+fn values_and_puts_worked_by_hand() {
+    let z7 = |set: &[usize]| record_with(6, set);
+    assert_eq!(get(INTEGERS, 7, 6, 0, &z7(&[0, 4])), 6);
+    assert_eq!(put(INTEGERS, 7, 6, 0, 3, &mut z7(&[])), 1);
+    assert_eq!(put(INTEGERS, 7, 6, 0, 6, &mut z7(&[2])), 2);
+    let mut image = z7(&[3, 4, 5]);
+    assert_eq!(put(INTEGERS, 7, 6, 0, 0, &mut image), 3);
+    assert_eq!(set_cells(&image), [0, 1, 2, 3, 4, 5]);
+    assert_eq!(put(INTEGERS, 7, 6, 0, 1, &mut image), 10_042);
+    assert_eq!(put(INTEGERS, 7, 6, 0, 0, &mut image), 0);
+    let mut image = record_with(3, &[0]);
+    assert_eq!(put(VECTORS, 2, 3, 0, 0, &mut image), 2);
+    assert_eq!(set_cells(&image), [0, 1, 2]);
+    let mut image = record_with(1, &[]);
+    assert_eq!(put(INTEGERS, 4, 1, 0, 2, &mut image), 10_042);
+    assert_eq!(renew(INTEGERS, 4, 1, 0, 2, &mut image), 10_044);
+    assert_eq!(put(INTEGERS, 4, 1, 0, 1, &mut image), 1);
+}
+
+#[test]
+fn sample_sequence() {
+    let mut image = erased_image(&[0], 6);
+    assert_eq!(put(VECTORS, 2, 3, 0, 1, &mut image), 1);
+    assert_eq!(put(VECTORS, 2, 3, 0, 0, &mut image), 2);
+    assert_eq!(put(VECTORS, 2, 3, 1, 2, &mut image), 1);
+    assert_eq!(put(VECTORS, 2, 3, 0, 3, &mut image), 10_042);
+    assert_eq!(renew(VECTORS, 2, 3, 1, 3, &mut image), 10_043);
+    assert_eq!(renew(VECTORS, 2, 3, 0, 3, &mut image), 2);
+    assert_eq!(image, [1, 0, 0, 0, 1, 0, 6, 0b1110_1011]);
+    assert_eq!(get(VECTORS, 2, 3, 1, &image), 2);
+    assert_eq!(get(VECTORS, 2, 3, 2, &image), 10_040);
+}
+
+#[test]
+fn refusals_of_the_making_and_of_wear() {
+    let image = erased_image(&[0], 64);
+    assert_eq!(get(INTEGERS, 64, 63, 0, &image), 0);
+    assert_eq!(get(INTEGERS, 65, 0, 0, &image), 10_030);
+    assert_eq!(get(2, 7, 6, 0, &image), 10_030);
+    assert_eq!(get(INTEGERS, 64, 64, 0, &image), 10_031);
+    assert_eq!(get(INTEGERS, 7, 6, 0, &erased_image(&[0], 5)), 10_032);
+    for (wear, answer) in [(9_999, 0), (10_000, 10_022)] {
+        let mut image = erased_image(&[wear], 1);
+        assert_eq!(put(INTEGERS, 2, 1, 0, 1, &mut image), 1);
+        assert_eq!(renew(INTEGERS, 2, 1, 0, 0, &mut image), answer);
+    }
+}
+
+/// The fewest cells of all sets of unset cells that lead from the value of the set cells to the target.
+fn fewest_by_search(sum: impl Fn(u32, u32) -> u32, labels: &[u32], set: u32, target: u32) -> Option<u32> {
+    let value = |cells: u32| {
+        let chosen = labels.iter().enumerate().filter(|(cell, _)| cells >> cell & 1 == 1);
+        chosen.fold(0, |value, (_, &label)| sum(value, label))
+    };
+    let sets = (0..1 << labels.len()).filter(|cells| cells & set == 0);
+    sets.filter(|&cells| value(cells | set) == target).map(u32::count_ones).min()
+}
+
+#[test]
+fn puts_and_renewals_against_a_search() {
+    let mut random = Random::new(7);
+    for _ in 0..20_000 {
+        let kind = random.between(0, 1);
+        let parameter = if kind == INTEGERS { random.between(2, 20) } else { random.between(1, 5) };
+        let order = if kind == INTEGERS { parameter } else { 1 << parameter };
+        let sum = |a: u32, b: u32| if kind == INTEGERS { (a + b) % order } else { a ^ b };
+        let n = random.between(1, 10);
+        let labels: Vec<u32> = (0..n).map(|cell| 1 + cell % (order - 1)).collect();
+        let set = random.number() & random.number() & ((1 << n) - 1);
+        let target = random.between(0, order - 1);
+        let cells: Vec<usize> = (0..n as usize).filter(|cell| set >> cell & 1 == 1).collect();
+        let image = record_with(n as u16, &cells);
+        let by_put = put(kind, parameter, n, 0, target, &mut image.clone());
+        let by_renewal = renew(kind, parameter, n, 0, target, &mut image.clone());
+        let fewest = fewest_by_search(sum, &labels, set, target);
+        let fewest_from_empty = fewest_by_search(sum, &labels, 0, target);
+        assert_eq!(by_put, fewest.unwrap_or(10_042));
+        assert_eq!(by_renewal, if fewest.is_some() { 10_043 } else { fewest_from_empty.unwrap_or(10_044) });
+    }
+}
