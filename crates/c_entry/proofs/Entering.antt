@@ -1,5 +1,5 @@
 -- From the checks of a call on an image to what it answers. Assumes nothing.
-use Rattle.std.proofs.Common.{◌≡◌, ℕ, ◌<◌, ◌++◌, List, [], ◌∷◌, get_or, IsErr, Ok, Err, Result, inl, inr, refl, sym, ap, ◌∙◌, subst, subst₂, arith}
+use Rattle.std.proofs.Common.{◌≡◌, ℕ, ◌<◌, List, [], ◌∷◌, get_or, IsErr, Ok, Err, Result, inl, inr, refl, sym, ap, ◌∙◌, subst}
 use Rattle.group.specs.Group.{Group, Lawful}
 use Rattle.cells.specs.Cells.{Cells}
 use Rattle.cells.specs.Rows.{Row, Refused, Served}
@@ -20,7 +20,7 @@ use Rattle.calls.specs.declared.ledger.Ledger.{Ledger}
 use Rattle.calls.specs.Ledger.{blank}
 use Rattle.calls.specs.Faults.{number}
 use Rattle.calls.specs.Records.{making_rows}
-use Rattle.calls.specs.Calls.{State, rows, state_of, Obeys}
+use Rattle.calls.specs.Calls.{State, state_of, Obeys}
 use Rattle.c_entry.specs.Entry.{entry_rows, ServedOn, RefusedOn, Answers, told, Enters}
 use Rattle.c_entry.specs.Faults.{entry_number}
 use Rattle.c_entry.specs.declared.fault.EntryFault.{EntryFault}

@@ -1,9 +1,9 @@
 -- That no answer of a call is above 1,024. Assumes nothing.
-use Rattle.std.proofs.Common.{◌≡◌, ℕ, zero, suc, ◌+◌, ◌*◌, ◌/◌, ◌<◌, ◌≤◌, min, ◌⊎◌, inl, inr, suc-mul, arith}
-use Rattle.group.specs.Group.{Group, Lawful, Usable, unusable}
+use Rattle.std.proofs.Common.{ℕ, zero, suc, ◌*◌, ◌<◌, ◌≤◌, inr, suc-mul, arith}
+use Rattle.group.specs.Group.{Group, Lawful, Usable}
 use Rattle.cells.specs.Cells.{Cells}
 use Rattle.cells.specs.Rows.{Served}
-use Rattle.cells.specs.Sets.{Cellset, size_below}
+use Rattle.cells.specs.Sets.{Cellset}
 use Rattle.cells.proofs.Sizes.{size_le}
 use Rattle.coset.specs.Code.{code}
 use Rattle.coset.proofs.Sums.{sum_in, label_in}

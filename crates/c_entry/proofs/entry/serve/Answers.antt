@@ -1,6 +1,5 @@
-use Rattle.std.proofs.Common.{◌≡◌, ℕ, ◌<◌, [], ◌∷◌, get_or, Ok, Err, refl, ap, sym, ◌∙◌, subst}
+use Rattle.std.proofs.Common.{◌≡◌, ℕ, ◌<◌, get_or, Ok, Err, ap, sym, ◌∙◌, subst}
 use Rattle.std.proofs.lemmas.Result.{err_from_is_err_and}
-use Rattle.cells.specs.Cells.{Cells}
 use Rattle.cells.specs.Rows.{Refused, Served}
 use Rattle.images.specs.declared.format.Format.TheVariants.{Flash}
 use Rattle.images.specs.Image.{part_cells, decoded}
