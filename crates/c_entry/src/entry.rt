@@ -17,8 +17,8 @@ use store::run::run_call;
 // what is added to the number of a refusal: no value and no count is as large
 const REFUSED: u32 = 10_000;
 
-// Makes a call with the group of a kind and a parameter. Each kind has a call of its own, so that the compiler makes code
-// for its group.
+// Makes a call with the group of a kind and a parameter. Each kind has a call of its own, so that the compiler makes
+// code for its group.
 pub(crate) fn enter(kind: u32, parameter: u32, n: u32, call: Call, image: &mut [u8]) -> u32
     ensures { Enters (named kind parameter) n call image.old image.new result }
 {

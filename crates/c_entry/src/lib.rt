@@ -1,5 +1,5 @@
-// Get, put and renew for callers in C, on numbers and on the bytes of a flash image. Each is an export of its own, since C
-// calls it by its name. The answer is the value or the count of cells, or 10,000 plus the number of the refusal.
+// Get, put and renew for callers in C, on numbers and on the bytes of a flash image. Each is an export of its own, since
+// C calls it by its name. The answer is the value or the count of cells, or 10,000 plus the number of the refusal.
 #![tactic(auto)]
 
 mod entry;
@@ -12,7 +12,8 @@ ghost use Rattle.c_entry.specs.Entry.{named, Enters};
 use crate::entry::enter;
 use calls::call::Call;
 
-// The value of a record. Here and below a 32-bit number has no `From` into an index; that no cast loses anything is proved.
+// The value of a record. Here and below a 32-bit number has no `From` into an index; that no cast loses anything is
+// proved.
 #[unsafe(no_mangle)]
 pub extern "C" fn record_store_get(
     kind: u32,

@@ -1,9 +1,8 @@
 -- Filling the planner's table row by row. Assumes nothing.
-use Rattle.std.proofs.Common.{◌≡◌, ℕ, ◌+◌, ◌<◌, ◌≤◌, min, Bool, true, false, cond, eqb, ◌⊎◌, List, [], length, get_or, set, replicate, refl, ◌≢◌, sym, ap, ◌∙◌, ap₂, inl, inr, arith, below_more}
+use Rattle.std.proofs.Common.{◌≡◌, ℕ, ◌+◌, ◌<◌, ◌≤◌, min, Bool, cond, eqb, ◌⊎◌, List, [], length, get_or, set, replicate, ◌≢◌, sym, ap, ◌∙◌, ap₂, inl, inr, arith}
 use Rattle.std.proofs.lemmas.Bool.{cases_eq, eq-eqb, ne_eqb}
 use Rattle.std.proofs.lemmas.List.{get_or-set_same, get_or-set_other, get_or-replicate}
 use Rattle.group.specs.Group.{Group, Lawful, Usable, In, step}
-use Rattle.group.specs.NumberedLemmas.{sum_in}
 use Rattle.cells.specs.Sets.{Cellset}
 use Rattle.coset.specs.Code.{code}
 use Rattle.coset.specs.Plans.{Filled, fewest_at, label_of, turn}

@@ -1,10 +1,7 @@
 -- Sums and sizes of sets of labelled cells. Assumes nothing.
-use Rattle.std.proofs.Common.{◌≡◌, ℕ, zero, suc, ◌+◌, ◌-◌, ◌%◌, ◌<◌, ◌≤◌, Bool, true, false, cond, ◌||◌, eqb, ◌⊎◌, sym, refl, ap, ◌∙◌, ap₂, inl, inr, add-zero, zero-add, add-suc, [], ◌∷◌, ◌++◌, mod-eq_of_lt, arith}
+use Rattle.std.proofs.Common.{◌≡◌, ℕ, zero, suc, ◌+◌, ◌-◌, ◌%◌, ◌<◌, ◌≤◌, Bool, true, false, cond, ◌||◌, eqb, ◌⊎◌, sym, refl, ap, ◌∙◌, ap₂, inl, inr, add-zero, add-suc, mod-eq_of_lt, arith}
 use Rattle.std.proofs.lemmas.Nat.{mod_below}
-use Rattle.std.proofs.lemmas.Bool.{cases_eq, eq-eqb, ne_eqb}
-use Rattle.std.proofs.lemmas.List.Elements.{filter-append}
-use Rattle.std.proofs.lemmas.List.Sums.{fold-append}
-use Rattle.std.specs.List.{filter, fold, range_with_len}
+use Rattle.std.proofs.lemmas.Bool.{cases_eq, eq-eqb, ne_eqb, cond-true}
 use Rattle.group.specs.Group.{Group, Lawful, Usable, In}
 use Rattle.cells.specs.Sets.{Cellset, size_below}
 use Rattle.coset.specs.Code.{Code, code, sum_below}
@@ -82,28 +79,10 @@ sum_agree c s t zero same = refl
 sum_agree c s t (suc n) same =
     ap₂ (λ b k. cond b (c.group.sum k (c.label n)) k) (same n (omega arith)) (sum_agree c s t n (λ i h. same i (omega arith)))
 
--- one number more at the end of a range
-range_push : (a n : ℕ) → range_with_len a (suc n) ≡ range_with_len a n ++ ((a + n) ∷ [])
-range_push a zero = ap (λ k. k ∷ []) (sym (add-zero a))
-range_push a (suc n) = ap (λ l. a ∷ l) (range_push (a + 1) n ∙ ap (λ k. range_with_len (a + 1) n ++ (k ∷ [])) (omega arith))
-
--- the same sum, cell by cell from the first
-pub sum_fold : (c : Code) (s : Cellset) (n : ℕ) → fold (λ sum i. c.group.sum sum (c.label i)) 0 (filter s (range_with_len 0 n)) ≡ sum_below c s n
+-- with a cell of the set
+pub sum_next : (c : Code) (s : Cellset) (i : ℕ) → s i ≡ true → sum_below c s (i + 1) ≡ c.group.sum (sum_below c s i) (c.label i)
 unfolding sum_below
-sum_fold c s zero = refl
-sum_fold c s (suc n) =
-    ap (λ l. fold turn 0 (filter s l)) (range_push 0 n)
-    ∙ ap (fold turn 0) (filter-append s (range_with_len 0 n) ((0 + n) ∷ []))
-    ∙ fold-append turn 0 (filter s (range_with_len 0 n)) (filter s ((0 + n) ∷ []))
-    ∙ ap₂ (λ k a. fold turn a (filter s (k ∷ []))) (zero-add n) (sum_fold c s n)
-    ∙ last (s n)
-  where
-    turn : ℕ → ℕ → ℕ
-    turn sum i = c.group.sum sum (c.label i)
-
-    last : (b : Bool) → fold turn (sum_below c s n) (cond b (n ∷ []) []) ≡ cond b (turn (sum_below c s n) n) (sum_below c s n)
-    last true = refl
-    last false = refl
+sum_next c s i member = let next : i + 1 ≡ suc i = omega arith in ap (sum_below c s) next ∙ cond-true (s i) _ _ member
 
 pub sum_none : (c : Code) (n : ℕ) → sum_below c none n ≡ 0
 unfolding sum_below

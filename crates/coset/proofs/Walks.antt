@@ -197,6 +197,20 @@ module _ (g : Group) (laws : Lawful g) (usable : Usable g) (n : ℕ) (free : Cel
             absurd (worse is_free best)
         first t reaches few j h same member (inr ne) = walked.first t reaches few j (omega arith) same member
 
+    -- once the rest is 0, no cell is better taken
+    pub walk_rests : rest ≡ 0 → Walked g n free table d (i + 1) chosen rest
+    walk_rests at_end = walk_leaves (λ is_free best. let here = ap (fewest_at table i) at_end ∙ none_left in omega arith)
+      where
+        none : Cellset
+        none j = false
+
+        none_left : fewest_at table i 0 ≡ 0
+        none_left =
+            let least = entry_least g laws usable n free table filled (n - i) i (omega arith) none (λ j h member. absurd (both_ways false refl member)) in
+            let sum = ap (fewest_at table i) (sum_empty (code g n) none n (λ j l h. refl)) in
+            let size = size_empty none n (λ j l h. refl) in
+            omega arith
+
   module _ (i : ℕ) (end : i ≡ n) (chosen : Cellset) (rest : ℕ) (walked : Walked g n free table d i chosen rest) where
     at_end : rest ≡ 0
     at_end = go (cases_eq rest 0)

@@ -1,5 +1,5 @@
 -- What the planner answers, and the table that it works with. Assumes nothing.
-use Rattle.std.specs.Prelude.{◌≡◌, ℕ, ◌+◌, ◌-◌, ◌%◌, ◌<◌, ◌≤◌, min, Bool, true, cond, Some, None, Option, ◌==◌, ◌≢◌, slice_index, slice_index_or, []}
+use Rattle.std.specs.Prelude.{◌≡◌, ℕ, ◌+◌, ◌-◌, ◌%◌, ◌<◌, ◌≤◌, min, Bool, true, cond, Some, None, Option, ◌==◌, slice_index, slice_index_or, []}
 use Rattle.group.specs.Group.{Group, In, step}
 use Rattle.cells.specs.Sets.{Cellset}
 use Rattle.coset.specs.Code.{Code, size_of, Reaches, Unreachable, Plan}

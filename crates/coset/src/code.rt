@@ -29,15 +29,23 @@ impl<G: Group> Code<G> {
     pub(crate) fn label(&self, cell: usize) -> u32
         ensures { result ≡ label_of (G.Group.meaning self.now.group) cell }
     {
-        1 + (cell % (self.group.order() as usize - 1)) as u32
+        let nonzero = self.group.order() as usize - 1;
+        // A record seldom has more cells than there are nonzero elements, and a division takes long.
+        let turn = if cell < nonzero { cell } else { cell % nonzero };
+        1 + turn as u32
     }
 
-    // What the labels of the cells of a set sum to.
+    // What the labels of the cells of a set sum to. A loop from each cell of the set to the next: a chain over all cells
+    // branches at each, and nothing can foresee how.
     pub fn label_sum(&self, set: &CellSet) -> u32
         ensures { result ≡ sum_of (code_of G.Group.meaning self.now) (members_of set.now) }
     {
-        (0..self.cells)
-            .filter(|cell| set.contains(*cell))
-            .fold(0, |sum, cell| self.group.sum(sum, self.label(cell)))
+        let mut sum = 0;
+        let mut cell = set.first_in(0, self.cells);
+        while cell < self.cells {
+            sum = self.group.sum(sum, self.label(cell));
+            cell = set.first_in(cell + 1, self.cells);
+        }
+        sum
     }
 }

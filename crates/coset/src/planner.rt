@@ -129,11 +129,13 @@ impl<G: Group> Search<'_, G> {
         let mut chosen = CellSet::empty();
         let mut rest = step;
         for cell in 0..self.cells {
-            let after = self.code.group.step(self.code.label(cell), rest);
-            let taken = table.get(cell + 1, after).saturating_add(1);
-            if self.free.contains(cell) && taken == table.get(cell, rest) {
-                chosen.insert(cell);
-                rest = after;
+            if rest != 0 && self.free.contains(cell) {
+                let after = self.code.group.step(self.code.label(cell), rest);
+                let taken = table.get(cell + 1, after).saturating_add(1);
+                if taken == table.get(cell, rest) {
+                    chosen.insert(cell);
+                    rest = after;
+                }
             }
         }
         chosen

@@ -49,8 +49,9 @@ impl Group for Integers {
     }
 
     fn opposite(&self, a: u32) -> u32 {
-        if self.has(a) {
-            (self.modulus - a) % self.modulus
+        // 0 is its own opposite. A division would take several times as long.
+        if self.has(a) && a != 0 {
+            self.modulus - a
         } else {
             0
         }

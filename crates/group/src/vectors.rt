@@ -8,9 +8,12 @@ use crate::interface::{Group, UNUSABLE};
 
 const MAX_BITS: u32 = 6;
 
+// The order is kept beside the bits: the compiler then sees which numbers are elements without a shift for each.
 #[derive(Clone, Copy)]
 pub struct Vectors {
     bits: u32,
+    order: u32,
+    ghost its_order: { order ≡ (vectors bits).order },
 }
 
 impl Vectors {
@@ -19,7 +22,12 @@ impl Vectors {
         ensures holds { result.bits ≡ bits }
         ensures means { Binary bits (vectors result.bits) }
     {
-        Vectors { bits }
+        let order = if 1 <= bits && bits <= MAX_BITS {
+            1 << bits
+        } else {
+            UNUSABLE
+        };
+        Vectors { bits, order }
     }
 }
 
@@ -29,11 +37,7 @@ impl Group for Vectors {
     ghost lawful = { λ g. vectors_lawful g.bits };
 
     fn order(&self) -> u32 {
-        if 1 <= self.bits && self.bits <= MAX_BITS {
-            1 << self.bits
-        } else {
-            UNUSABLE
-        }
+        self.order
     }
 
     fn sum(&self, a: u32, b: u32) -> u32 {

@@ -88,12 +88,12 @@ impl Format {
         Ok(())
     }
 
-    // Whether an unused bit of any page reads as set.
+    // Whether an unused bit of any page reads as set. Pages of whole bytes have none.
     fn any_stray(self, image: &[u8], layout: Layout) -> bool
         requires { size self layout.pages layout.width ≤ length image.now }
         ensures { Decides result ((p : ℕ) × (p < layout.pages) × Stray self layout.pages layout.width image.now p) }
     {
-        (0..layout.pages).any(|page| self.stray(image, layout, page))
+        layout.width % 8 != 0 && (0..layout.pages).any(|page| self.stray(image, layout, page))
     }
 
     // Whether one of a page does: a bit past its cells.

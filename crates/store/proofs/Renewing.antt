@@ -1,5 +1,5 @@
 -- From the steps of a renewal to the rules that it obeys. Assumes nothing.
-use Rattle.std.proofs.Common.{◌≡◌, ℕ, ◌+◌, ◌*◌, ◌%◌, ◌<◌, ◌≤◌, Bool, true, false, cond, eqb, ◌⊎◌, List, [], get_or, None, Ok, Err, Result, sym, refl, ap, ◌∙◌, subst, ap₂, inl, inr, arith}
+use Rattle.std.proofs.Common.{◌≡◌, ℕ, ◌+◌, ◌*◌, ◌%◌, ◌<◌, ◌≤◌, Bool, true, false, cond, eqb, ◌⊎◌, List, get_or, None, Ok, Err, Result, sym, refl, ap, ◌∙◌, subst, ap₂, inl, inr, arith}
 use Rattle.std.proofs.lemmas.Bool.{cases_eq, eq-eqb, ne_eqb}
 use Rattle.group.specs.Group.{step}
 use Rattle.cells.specs.Cells.{Cells, Cell}
@@ -65,7 +65,7 @@ module _ (c : Code) (m : Cells) (k : ℕ) (found : Found) (known : Known c m k f
 
     module _ (plans : List CellSet) (planned : PlansOfPage c m (page_of c m k) (k % per_page c m) x (per_page c m) plans) where
       abbrev d₀ : CellSet
-      d₀ = record { members = [] }
+      d₀ = record { bits = 0 }
 
       t : There c m k
       t = there c m k known.place.0

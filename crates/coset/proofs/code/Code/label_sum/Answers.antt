@@ -1,17 +1,31 @@
-use Rattle.std.proofs.Common.{rules, tests, arith, ◌∙◌}
-use Rattle.std.proofs.lemmas.Iterator.{YieldsList-from_range}
-use Rattle.std.proofs.lemmas.Iterator.Consumers.{YieldsList-from_filter, fold_from_yields_List}
+use Rattle.std.proofs.Common.{◌≡◌, ◌+◌, arith, sym, ap, ◌∙◌}
 use Rattle.coset.specs.CellSets.{members_of}
-use Rattle.coset.specs.Code.{code}
-use Rattle.coset.specs.Plans.{label_of}
-use Rattle.coset.proofs.Sums.{sum_fold}
+use Rattle.coset.specs.Code.{code, sum_below}
+use Rattle.coset.proofs.Beyond.{sum_beyond, sum_empty}
+use Rattle.coset.proofs.Sums.{sum_next}
 use Rattle.coset.proofs.code.Code.label_sum.Goals as goal
+
+pub loop-cell-init : goal.loop-cell-init
+loop-cell-init g c =
+    let first = c.first_in-cell.ensures in
+    (sym (sum_empty _ (members_of c.args.set.now) c.first_in-cell.result first.before), first.high, first.hit)
+
+pub loop-cell-preserved : goal.loop-cell-preserved
+loop-cell-preserved g c =
+    let co = code (g.G.Group.meaning c.args.self.now.group) c.args.self.now.cells in
+    let s = members_of c.args.set.now in
+    let cell = c.loop-cell.cell in
+    let next = c.first_in-cell-in-loop-cell.ensures in
+    let inv = c.loop-cell.invariant in (
+      c.sum-sum.ensures ∙ ap (co.group.sum c.loop-cell.sum) c.label.ensures ∙ ap (λ sum. co.group.sum sum (co.label cell)) inv.0
+          ∙ sym (sum_beyond co s (cell + 1) c.first_in-cell-in-loop-cell.result next.low next.before ∙ sum_next co s cell (inv.2 c.loop-cell-test.true)),
+      next.high,
+      next.hit,
+    )
 
 pub returns : goal.returns
 returns g c =
-    let group = g.G.Group.meaning c.args.self.now.group in
-    let set = members_of c.args.set.now in
-    fold_from_yields_List _ (λ sum cell. group.sum sum (label_of group cell)) 0 _ c.fold.ensures.ran
-    (YieldsList-from_filter _ set (YieldsList-from_range 0 c.args.self.now.cells c.args.self.now.cells c.filter.ensures.source (omega arith)) c.filter.ensures.closure (λ cell b q k. search (rules, tests)))
-    (λ sum cell b q k. search (rules, tests))
-    ∙ sum_fold (code group c.args.self.now.cells) set c.args.self.now.cells
+    let co = code (g.G.Group.meaning c.args.self.now.group) c.args.self.now.cells in
+    let inv = c.loop-cell.invariant in
+    let all : c.loop-cell.cell ≡ c.args.self.now.cells = let inside = inv.1 in omega arith in
+    inv.0 ∙ ap (sum_below co (members_of c.args.set.now)) all

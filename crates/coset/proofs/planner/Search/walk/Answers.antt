@@ -1,11 +1,11 @@
-use Rattle.std.proofs.Common.{◌≡◌, ℕ, ◌+◌, sym, ap, ◌∙◌, arith}
+use Rattle.std.proofs.Common.{ℕ, ◌+◌, sym, ap, ◌∙◌, arith}
 use Rattle.std.proofs.lemmas.Bool.{both_ways}
 use Rattle.group.specs.Group.{Group, Lawful, Usable, step}
 use Rattle.coset.specs.CellSets.{members_of}
-use Rattle.coset.specs.Plans.{fewest_at, label_of}
-use Rattle.coset.proofs.Walks.{walk_starts, walk_takes, walk_leaves, walk_ends, walk_first}
+use Rattle.coset.specs.Plans.{fewest_at}
+use Rattle.coset.proofs.Walks.{walk_starts, walk_takes, walk_leaves, walk_rests, walk_ends, walk_first}
 use Rattle.coset.proofs.planner.Search.walk.Goals as goal
-use Rattle.coset.proofs.planner.Search.walk.Goals.{then-contains+then-taken-get, else-contains, else-contains-via-then-contains+else-taken-get, else-contains-via-else-contains}
+use Rattle.coset.proofs.planner.Search.walk.Goals.{then-rest-ne0+then-contains+then-taken-get, then-rest-ne0+then-contains+else-taken-get, else-rest-ne0, else-rest-ne0-via-then-rest-ne0+else-contains, else-rest-ne0-via-else-rest-ne0}
 
 pub loop-cell-init : goal.loop-cell-init
 loop-cell-init g c =
@@ -15,21 +15,31 @@ loop-cell-init g c =
 
 pub loop-cell-preserved : goal.loop-cell-preserved
 loop-cell-preserved g c =
-    elim c.if-contains.branch [
-      | then-contains+then-taken-get w ↦
+    elim c.if-rest-ne0.branch [
+      | then-rest-ne0+then-contains+then-taken-get w ↦
+          let after = w.step-after.ensures ∙ ap (λ label. step group label c.loop-cell.rest) w.label.ensures in
           walk_takes group laws usable c.args.self.now.cells _ c.args.table.now c.requires.filled c.args.step
           cell c.loop-cell-test.true _ c.loop-cell.rest c.loop-cell.invariant
           _ (λ j. ap (λ s. members_of s j) w.chosen-is ∙ w.insert.ensures.taken (omega arith) j)
-          _ (w.rest-is ∙ rest) (sym c.contains.ensures ∙ w.if-contains.true)
+          _ (w.rest-is ∙ after) (sym w.contains.ensures ∙ w.if-contains.true)
           (omega (arith, ap next w.rest-is))
-      | else-contains w ↦
+      | then-rest-ne0+then-contains+else-taken-get w ↦
+          let after = w.step-after.ensures ∙ ap (λ label. step group label c.loop-cell.rest) w.label.ensures in
           rw (w.chosen-is, w.rest-is)
           (walk_leaves group laws usable c.args.self.now.cells _ c.args.table.now c.requires.filled c.args.step
           cell c.loop-cell-test.true _ c.loop-cell.rest c.loop-cell.invariant
-          (elim w.else-contains.branch [
-            | else-contains-via-then-contains+else-taken-get w' ↦ λ _ best. w'.if-taken-get.false (omega (arith, ap next rest))
-            | else-contains-via-else-contains w' ↦ λ is_free _. both_ways _ w'.if-contains.false (c.contains.ensures ∙ is_free)
-          ]))
+          (λ _ best. w.if-taken-get.false (omega (arith, ap next after))))
+      | else-rest-ne0 w ↦
+          rw (w.chosen-is, w.rest-is)
+          (elim w.else-rest-ne0.branch [
+            | else-rest-ne0-via-then-rest-ne0+else-contains w' ↦
+                walk_leaves group laws usable c.args.self.now.cells _ c.args.table.now c.requires.filled c.args.step
+                cell c.loop-cell-test.true _ c.loop-cell.rest c.loop-cell.invariant
+                (λ is_free _. both_ways _ w'.if-contains.false (w'.contains.ensures ∙ is_free))
+            | else-rest-ne0-via-else-rest-ne0 w' ↦
+                walk_rests group laws usable c.args.self.now.cells _ c.args.table.now c.requires.filled c.args.step
+                cell c.loop-cell-test.true _ c.loop-cell.rest c.loop-cell.invariant w'.if-rest-ne0.false
+          ])
     ]
   where
     group : Group
@@ -46,9 +56,6 @@ loop-cell-preserved g c =
 
     next : ℕ → ℕ
     next = fewest_at c.args.table.now (cell + 1)
-
-    rest : c.step-after.result ≡ step group (label_of group cell) c.loop-cell.rest
-    rest = c.step-after.ensures ∙ ap (λ label. step group label c.loop-cell.rest) c.label.ensures
 
 pub returns : goal.returns
 returns g c =

@@ -3,7 +3,7 @@ use Rattle.std.proofs.lemmas.Bool.{cond-true, cond-false, eq-eqb, ne_eqb}
 use Rattle.coset.specs.Code.{code, every, Plan}
 use Rattle.coset.specs.CellSets.{members_of}
 use Rattle.calls.proofs.Geometry.{there}
-use Rattle.store.specs.Steps.{target}
+use Rattle.store.specs.Steps.{target, PlansOfPage}
 use Rattle.store.proofs.Paging.{page_more, page_fits, rows_within}
 use Rattle.store.proofs.Renewing.{records_to_page}
 use Rattle.store.proofs.Serving.{plan_free}
@@ -44,3 +44,12 @@ loop-r-preserved g c =
     (subst (λ d. Plan co every d (members_of plan)) is
     (plan_free co (members_of c.complement-all.result) every c.if-r-record.target (members_of plan)
     (λ i h. c.complement-all.ensures i (omega arith) ∙ ap not (c.empty.ensures i)) c.in_ok-plan.ensures)))
+
+pub returns : goal.returns
+returns g c =
+    let co = code (g.G.Group.meaning c.args.self.now.code.group) c.args.self.now.code.cells in
+    let m = g.A.CellArray.cells c.args.self.now.array in
+    let all : c.loop-r.r ≡ c.per_page-records.result = omega arith in
+    let shared = c.per_page-records.ensures ∙ records_to_page co m c.args.«record» c.requires in
+    subst (λ k. PlansOfPage co m (c.args.«record» / k) (c.args.«record» % k) c.args.value k c.loop-r.plans.items) shared
+    (subst (λ r. PlansOfPage co m (c.args.«record» / c.per_page-records.result) (c.args.«record» % c.per_page-records.result) c.args.value r c.loop-r.plans.items) all c.loop-r.invariant)
