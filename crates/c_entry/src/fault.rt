@@ -28,14 +28,6 @@ impl EntryFault {
     }
 }
 
-impl From<ImageFault> for EntryFault {
-    ghost from_gives = { λ e r. r ≡ Image e };
-
-    fn from(fault: ImageFault) -> EntryFault {
-        EntryFault::Image(fault)
-    }
-}
-
 impl From<MakingFault> for EntryFault {
     ghost from_gives = { λ e r. r ≡ Making e };
 

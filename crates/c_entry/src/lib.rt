@@ -1,5 +1,5 @@
-// Get, put and renew for callers in C, on numbers and on the bytes of a flash image. Each is an export of its own, since
-// C calls it by its name. The answer is the value or the count of cells, or 10,000 plus the number of the refusal.
+// Get, put and renew for callers in C, on numbers and on the bytes of a flash image. Each is an export of its own, as C
+// calls it by its name. The answer is the value or the count of cells, or 10,000 plus the number of the refusal.
 #![tactic(auto)]
 
 mod entry;

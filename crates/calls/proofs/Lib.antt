@@ -3,9 +3,13 @@ pub mod TwoCells
 pub mod Geometry
 pub mod Effects
 pub mod Values
+pub mod Parts
 pub mod PerErase
+pub mod DataSheets
 pub mod Promised
+pub mod Singly
 pub mod Subsets
 pub mod Worked
 pub mod Sampled
+pub mod PageLife
 pub mod Running

@@ -1,15 +1,19 @@
 -- Changes per erase: between two renewals of a page there are at least h changes. Assumes nothing.
 use Rattle.std.proofs.Common.{◌≡◌, ℕ, zero, suc, ◌+◌, ◌*◌, ◌%◌, ◌<◌, ◌≤◌, Bool, true, false, cond, not, ◌&&◌, eqb, ◌⊎◌, List, [], ◌∷◌, Ok, Err, sym, refl, ap, ◌∙◌, subst, ap₂, inl, inr, mul-zero, mul-one, mul-add, arith}
-use Rattle.std.proofs.lemmas.Bool.{cases_eq, cases_lt, eq-eqb, ne_eqb, false≢true}
+use Rattle.std.proofs.lemmas.Bool.{cases_eq, cases_lt, eq-eqb, eqb-true, ne_eqb, false≢true}
 use Rattle.group.specs.Group.{Group, Lawful, Usable, In, step, figure}
 use Rattle.cells.specs.Cells.{Cells, Shaped}
+use Rattle.cells.specs.Rows.{Refused}
 use Rattle.cells.specs.Sets.{Cellset, size_below}
+use Rattle.cells.proofs.Sizes.{size_le}
 use Rattle.calls.specs.declared.call.Call.{Call}
 use Rattle.calls.specs.declared.call.Call.TheVariants.{Get, Put, Renew}
 use Rattle.coset.specs.Code.{Code, code, every, size_of, Reaches, Reachable, Plan}
 use Rattle.calls.specs.Records.{per_page, page_of, held, free, value}
-use Rattle.calls.specs.Calls.{State, Answer, Sets, Renewed, renewed_value, Obeys}
-use Rattle.calls.specs.History.{Event, Linked, Every, total, is_renewal, is_change, renewed, changed, on_page, renewals, changes}
+use Rattle.calls.specs.Faults.{number}
+use Rattle.calls.specs.Calls.{State, Answer, Sets, Renewed, renewed_value, record_of, rows, Obeys}
+use Rattle.calls.specs.History.{Event, Linked, Every, total, is_renewal, is_change, renewed, changed, on_page, accepted, RefusedFull, RefusedWorn, renewals, changes}
+use Rattle.calls.specs.DataSheet.{Unset}
 use Rattle.coset.proofs.Groups.{step_in, step_same, step_zero}
 use Rattle.coset.proofs.Sums.{none, only, either, Agree, size_agree, size_either, size_none, size_only, sum_none, sum_only, label_in, label_first}
 use Rattle.calls.proofs.Geometry.{at_place, There, there, place_within, page_same, place_same, per_page_same}
@@ -48,11 +52,11 @@ module _ (g : Group) (laws : Lawful g) (n : ℕ) (long : g.order ≤ n + 1) wher
       omega arith
 
   -- every record of page p has at most b set cells
-  abbrev Bound : Cells → ℕ → ℕ → Type 0
+  abbrev pub Bound : Cells → ℕ → ℕ → Type 0
   Bound m p b = (r : ℕ) → r < per_page (code g n) m → size_below (at_place (code g n) m p r) n ≤ b
 
   -- h changes since the last renewal of page p, or few set cells after t changes
-  abbrev Known : Cells → ℕ → ℕ → Type 0
+  abbrev pub Known : Cells → ℕ → ℕ → Type 0
   Known m p t = (figure g ≤ t) ⊎ Bound m p (1 + 2 * t)
 
   -- with fewer than h changes each value is within reach of each record, by two cells at most
@@ -143,28 +147,30 @@ module _ (g : Group) (laws : Lawful g) (n : ℕ) (long : g.order ≤ n + 1) wher
             let bound = bound_more 2 (1 + 2 * t) (omega arith) light in
             inr (λ r h. let few = bound r h in omega arith)
 
+  -- A value that no free cells of its record reach comes after h changes.
+  late :
+      (m : Cells) (k x : ℕ) → There (code g n) m k → In g x → (Reachable (code g n) (free (code g n) m k) (step g (value (code g n) m k) x) → ⊥) →
+      (t : ℕ) → Known m (page_of (code g n) m k) t → figure g ≤ t
+  late m k x at hx far t (inl enough) = enough
+  late m k x at hx far t (inr light) = go (cases_lt t (figure g))
+    where
+      hv : In g (value (code g n) m k)
+      hv = value_in g laws at.usable n m k
+
+      go : ((t < figure g) ⊎ (figure g ≤ t)) → figure g ≤ t
+      go (inr enough) = enough
+      go (inl early) = reach (cases_eq (step g (value (code g n) m k) x) 0)
+        where
+          reach : ((step g (value (code g n) m k) x ≡ 0) ⊎ (step g (value (code g n) m k) x ≡ 0 → ⊥)) → figure g ≤ t
+          reach (inl z) = absurd (far (none, subst (λ d. Reaches (code g n) (free (code g n) m k) d none) (sym z) (reach_none g laws n (free (code g n) m k) at.usable)))
+          reach (inr nz) =
+              let two = near m k t at light early (step g (value (code g n) m k) x) (step_in g laws at.usable (value (code g n) m k) x hv hx) nz in
+              absurd (far (two.0, two.1))
+
   -- An accepted renewal.
   module _ (m m' : Cells) (k x marked : ℕ) (at : There (code g n) m k) (hx : In g x) (far : Reachable (code g n) (free (code g n) m k) (step g (value (code g n) m k) x) → ⊥)
       (done : Renewed (code g n) k x m m' marked) where
-    -- it comes after h changes
-    late : (t : ℕ) → Known m (page_of (code g n) m k) t → figure g ≤ t
-    late t (inl enough) = enough
-    late t (inr light) = go (cases_lt t (figure g))
-      where
-        hv : In g (value (code g n) m k)
-        hv = value_in g laws at.usable n m k
-
-        go : ((t < figure g) ⊎ (figure g ≤ t)) → figure g ≤ t
-        go (inr enough) = enough
-        go (inl early) = reach (cases_eq (step g (value (code g n) m k) x) 0)
-          where
-            reach : ((step g (value (code g n) m k) x ≡ 0) ⊎ (step g (value (code g n) m k) x ≡ 0 → ⊥)) → figure g ≤ t
-            reach (inl z) = absurd (far (none, subst (λ d. Reaches (code g n) (free (code g n) m k) d none) (sym z) (reach_none g laws n (free (code g n) m k) at.usable)))
-            reach (inr nz) =
-                let two = near m k t at light early (step g (value (code g n) m k) x) (step_in g laws at.usable (value (code g n) m k) x hv hx) nz in
-                absurd (far (two.0, two.1))
-
-    -- and leaves at most one set cell in each record of the page
+    -- it leaves at most one set cell in each record of the page
     renewed_light : Bound m' (page_of (code g n) m k) 1
     renewed_light r h =
         let lt : r < per_page (code g n) m = rw (per_page_same (code g n) m m' done.shape) at h in
@@ -264,7 +270,7 @@ module _ (g : Group) (laws : Lawful g) (n : ℕ) (long : g.order ≤ n + 1) wher
       go (inl q) =
           let one : figure g * renews p e ≡ figure g =
           ap (λ b. figure g * cond b 1 0) (eq-eqb (page_of (code g n) before.cells k) p q) ∙ mul-one (figure g) in
-          let enough = late before.cells after.cells k x r at hx obeys.0.1.1.0 obeys.1 t (subst (λ z. Known before.cells z t) (sym q) known) in (
+          let enough = late before.cells k x at hx obeys.0.1.1.0 t (subst (λ z. Known before.cells z t) (sym q) known) in (
             0,
             omega arith,
             inr (subst (λ z. Bound after.cells z 1) q (renewed_light before.cells after.cells k x r at hx obeys.0.1.1.0 obeys.1)),
@@ -273,26 +279,118 @@ module _ (g : Group) (laws : Lawful g) (n : ℕ) (long : g.order ≤ n + 1) wher
           still e p t (ap (λ b. cond b 1 0) (ne_eqb (page_of (code g n) before.cells k) p ne)) refl
           (renewed_away before.cells after.cells k x r at hx obeys.0.1.1.0 obeys.1 p t h ne known)
 
-  abbrev Rules : Event → Type 0
+  abbrev pub Rules : Event → Type 0
   Rules e = Obeys (code g n) e.call e.answer e.before e.after
 
-  -- The events from a state on, where t changes are known.
-  balance :
+  -- The events from a state on, where t changes are known: the balance of the counts, and what is known after them.
+  pub reckon :
       (es : List Event) (first last : State) → Linked first es last → Every Rules es → (p t : ℕ) → p < first.cells.pages → Known first.cells p t →
-      figure g * renewals (code g n) p es ≤ changes (code g n) p es + t
+      (t' : ℕ) × (figure g * renewals (code g n) p es + t' ≤ changes (code g n) p es + t) × Known last.cells p t'
   unfolding total
-  balance [] first last linked all p t h known = let none_renewed = mul-zero (figure g) in omega arith
-  balance (e ∷ es) first last linked all p t h known =
+  reckon [] first last linked all p t h known =
+      let none_renewed = mul-zero (figure g) in
+      (t, omega arith, subst (λ z. Known z.cells p t) (sym linked) known)
+  reckon (e ∷ es) first last linked all p t h known =
       let inside : p < e.before.cells.pages = rw linked.0 h in
       let next = turn e.call e.answer e.before e.after p t all.0 inside (subst (λ z. Known z.cells p t) (sym linked.0) known) in
       let still_inside : p < e.after.cells.pages = rw (shape_kept (code g n) e.call e.answer e.before e.after all.0).pages inside in
-      let later = balance es e.after last linked.1 all.1 p next.0 still_inside next.2 in
+      let later = reckon es e.after last linked.1 all.1 p next.0 still_inside next.2 in
       let sum = mul-add (figure g) (renews p e) (renewals (code g n) p es) in
       let this = next.1 in
-      omega arith
+      let rest = later.1 in
+      (later.0, omega arith, later.2)
+
+  -- At first h changes are known of any page, none of a page with no cell set, and none after an accepted renewal.
+  pub known_any : (m : Cells) (p : ℕ) → Known m p (figure g)
+  known_any m p = inl (omega arith)
+
+  pub known_unset : (m : Cells) (p : ℕ) → Unset m p → Known m p 0
+  known_unset m p unset = inr (λ r h. few r h (cases_lt 0 n))
+    where
+      few : (r : ℕ) → r < per_page (code g n) m → ((0 < n) ⊎ (n ≤ 0)) → size_below (at_place (code g n) m p r) n ≤ 1
+      few r h (inl some) =
+          let same = size_agree (at_place (code g n) m p r) none n (λ i lt. unset (r * n + i) (place_within (code g n) m r i some h lt)) in
+          let empty = size_none n in
+          omega arith
+      few r h (inr no_cells) = let small = size_le (at_place (code g n) m p r) n in omega arith
+
+  pub known_renewed :
+      (call : Call) (answer : Answer) (before after : State) (p : ℕ) → Obeys (code g n) call answer before after →
+      (is_renewal call && accepted answer) ≡ true → eqb (page_of (code g n) before.cells (record_of call)) p ≡ true → Known after.cells p 0
+  known_renewed (Get k) answer before after p obeys is here = absurd (false≢true is)
+  known_renewed (Put k x) answer before after p obeys is here = absurd (false≢true is)
+  known_renewed (Renew k x) (Err f) before after p obeys is here = absurd (false≢true is)
+  known_renewed (Renew k x) (Ok r) before after p obeys is here =
+      inr (subst (λ z. Bound after.cells z 1) (eqb-true _ p here)
+      (renewed_light before.cells after.cells k x r (there (code g n) before.cells k (omega (arith, obeys.0.0))) (omega (arith, obeys.0.1.0)) obeys.0.1.1.0 obeys.1))
+
+  -- What is refused as full or as worn out comes after h changes.
+  pub late_full :
+      (call : Call) (answer : Answer) (before after : State) (p t : ℕ) → Obeys (code g n) call answer before after → RefusedFull answer →
+      eqb (page_of (code g n) before.cells (record_of call)) p ≡ true → Known before.cells p t → figure g ≤ t
+  late_full call (Ok r) before after p t obeys full here known = absurd full
+  late_full (Get k) (Err f) before after p t obeys full here known = absurd (go obeys.0)
+    where
+      go : Refused (rows (code g n) before.cells (Get k)) (number f) → ⊥
+      go (inl (_, is)) = omega (arith, is)
+      go (inr (_, never)) = never
+  late_full (Renew k x) (Err f) before after p t obeys full here known = absurd (go obeys.0)
+    where
+      go : Refused (rows (code g n) before.cells (Renew k x)) (number f) → ⊥
+      go (inl (_, is)) = omega (arith, is)
+      go (inr (_, inl (_, is))) = omega (arith, is)
+      go (inr (_, inr (_, inl (_, is)))) = omega (arith, is)
+      go (inr (_, inr (_, inr (_, inl (_, is))))) = omega (arith, is)
+      go (inr (_, inr (_, inr (_, inr (_, inl (_, is)))))) = omega (arith, is)
+      go (inr (_, inr (_, inr (_, inr (_, inr (_, never)))))) = never
+  late_full (Put k x) (Err f) before after p t obeys full here known = go obeys.0
+    where
+      go : Refused (rows (code g n) before.cells (Put k x)) (number f) → figure g ≤ t
+      go (inl (_, is)) = absurd (omega (arith, is))
+      go (inr (_, inl (_, is))) = absurd (omega (arith, is))
+      go (inr (there_is, inr (element, inl (full_now, _)))) =
+          late before.cells k x (there (code g n) before.cells k (omega (arith, there_is))) (omega (arith, element)) (λ reach. full_now reach.0 reach.1) t
+          (subst (λ z. Known before.cells z t) (sym (eqb-true _ p here)) known)
+      go (inr (_, inr (_, inr (_, never)))) = absurd never
+
+  pub late_worn :
+      (call : Call) (answer : Answer) (before after : State) (p t : ℕ) → Obeys (code g n) call answer before after → RefusedWorn answer →
+      eqb (page_of (code g n) before.cells (record_of call)) p ≡ true → Known before.cells p t → (figure g ≤ t) × (before.cells.limit ≤ before.cells.wear p)
+  late_worn call (Ok r) before after p t obeys worn here known = absurd worn
+  late_worn (Get k) (Err f) before after p t obeys worn here known = absurd (go obeys.0)
+    where
+      go : Refused (rows (code g n) before.cells (Get k)) (number f) → ⊥
+      go (inl (_, is)) = omega (arith, is)
+      go (inr (_, never)) = never
+  late_worn (Put k x) (Err f) before after p t obeys worn here known = absurd (go obeys.0)
+    where
+      go : Refused (rows (code g n) before.cells (Put k x)) (number f) → ⊥
+      go (inl (_, is)) = omega (arith, is)
+      go (inr (_, inl (_, is))) = omega (arith, is)
+      go (inr (_, inr (_, inl (_, is)))) = omega (arith, is)
+      go (inr (_, inr (_, inr (_, never)))) = never
+  late_worn (Renew k x) (Err f) before after p t obeys worn here known = go obeys.0
+    where
+      page : page_of (code g n) before.cells k ≡ p
+      page = eqb-true _ p here
+
+      go : Refused (rows (code g n) before.cells (Renew k x)) (number f) → (figure g ≤ t) × (before.cells.limit ≤ before.cells.wear p)
+      go (inl (_, is)) = absurd (omega (arith, is))
+      go (inr (_, inl (_, is))) = absurd (omega (arith, is))
+      go (inr (_, inr (_, inl (_, is)))) = absurd (omega (arith, is))
+      go (inr (_, inr (_, inr (_, inl (_, is))))) = absurd (omega (arith, is))
+      go (inr (there_is, inr (element, inr (far, inr (_, inl (limit, _)))))) = (
+        late before.cells k x (there (code g n) before.cells k (omega (arith, there_is))) (omega (arith, element)) far t
+            (subst (λ z. Known before.cells z t) (sym page) known),
+        subst (λ z. before.cells.limit ≤ before.cells.wear z) page limit,
+      )
+      go (inr (_, inr (_, inr (_, inr (_, inr (_, never)))))) = absurd never
 
   -- Whatever the list of calls, a page is renewed only after h changes, but for the first time.
   pub changes_per_erase :
       (es : List Event) (first last : State) → Linked first es last → Every Rules es → (p : ℕ) → p < first.cells.pages →
       figure g * renewals (code g n) p es ≤ changes (code g n) p es + figure g
-  changes_per_erase es first last linked all p h = balance es first last linked all p (figure g) h (inl (omega arith))
+  changes_per_erase es first last linked all p h =
+      let known = reckon es first last linked all p (figure g) h (known_any first.cells p) in
+      let balance = known.1 in
+      omega arith

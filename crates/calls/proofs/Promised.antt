@@ -1,5 +1,5 @@
 -- Obeying the rules at each call keeps the promise over the whole list. Assumes nothing.
-use Rattle.std.proofs.Common.{◌≡◌, ℕ, ◌+◌, ◌<◌, ◌≤◌, cond, List, [], ◌∷◌, ◌++◌, map, Ok, Err, sym, refl, ap, ◌∙◌, subst, arith}
+use Rattle.std.proofs.Common.{◌≡◌, ℕ, ◌<◌, ◌≤◌, cond, List, [], ◌∷◌, ◌++◌, map, Ok, Err, sym, refl, ap, ◌∙◌, subst, arith}
 use Rattle.std.proofs.lemmas.List.{append-nil}
 use Rattle.group.specs.Group.{Group, Lawful}
 use Rattle.calls.specs.declared.call.Call.{Call}
@@ -9,33 +9,18 @@ use Rattle.coset.specs.Code.{Code, code}
 use Rattle.calls.specs.Records.{records, value}
 use Rattle.calls.specs.Ledger.{ceiling, raised}
 use Rattle.calls.specs.Calls.{State, Answer, Obeys}
-use Rattle.calls.specs.History.{Event, Linked, Every, total, renewed, changed, renewals, marks, accepts, last_accepted}
+use Rattle.calls.specs.History.{Event, Linked, Every, total, renewed, changed, marks, accepts, last_accepted}
 use Rattle.calls.specs.Promise.{Gets, Promise, WithinCeiling, RulesSuffice}
 use Rattle.calls.proofs.Geometry.{records_same}
-use Rattle.calls.proofs.Values.{shape_kept, full_exactly, fewest, lasts, value_after, wear_after, raised_none, raised_twice, Noted, noted_after, noted_small}
+use Rattle.calls.proofs.Values.{shape_kept, full_exactly, fewest, lasts, value_after, raised_none, raised_twice, Noted, noted_after, noted_small}
+use Rattle.calls.proofs.Parts.{Rules, erases}
 use Rattle.calls.proofs.PerErase.{changes_per_erase}
-
-abbrev Rules : Code → Event → Type 0
-Rules c e = Obeys c e.call e.answer e.before e.after
+use Rattle.calls.proofs.DataSheets.{data_sheet}
 
 -- what holds of each event that obeys holds of every event
 each : (P Q : Event → Type 0) → ((e : Event) → P e → Q e) → (es : List Event) → Every P es → Every Q es
 each P Q f [] all = tt
 each P Q f (e ∷ es) all = (f e all.0, each P Q f es all.1)
-
--- a page's wear grows by its accepted renewals
-erases :
-    (c : Code) (es : List Event) (first last : State) → Linked first es last → Every (Rules c) es → (p : ℕ) → p < first.cells.pages →
-    last.cells.wear p ≡ first.cells.wear p + renewals c p es
-unfolding total
-erases c [] first last linked all p h = let same = ap (λ z. z.cells.wear p) linked in omega arith
-erases c (e ∷ es) first last linked all p h =
-    let inside : p < e.before.cells.pages = rw linked.0 h in
-    let after : p < e.after.cells.pages = rw (shape_kept c e.call e.answer e.before e.after all.0).pages inside in
-    let one = wear_after c e.call e.answer e.before e.after all.0 p inside in
-    let rest = erases c es e.after last linked.1 all.1 p after in
-    let start = ap (λ z. z.cells.wear p) linked.0 in
-    omega arith
 
 -- a count of the ledger is the sum over the events, to the ceiling
 module _ (c : Code) (f : Event → ℕ) (φ : Ledger → ℕ) (small : (l : Ledger) → WithinCeiling l → φ l ≤ ceiling)
@@ -120,6 +105,7 @@ rules_suffice g laws n first history last within linked all =
       full_exactly = each _ _ (λ e o. full_exactly c e.call e.answer e.before e.after o) history all;
       fewest = each _ _ (λ e o. fewest c e.call e.answer e.before e.after o) history all;
       changes_per_erase = λ long p h. changes_per_erase g laws n long history first last linked all p h;
+      data_sheet = λ long. data_sheet g laws n long history first last linked all;
       erases = erases c history first last linked all;
       lasts = each _ _ (λ e o. lasts c e.call e.answer e.before e.after o) history all;
       gets = gets g laws n history first last linked all;

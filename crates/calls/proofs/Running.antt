@@ -1,5 +1,5 @@
 -- Lists of calls that grow by one call, and the promise that holds of them. Assumes nothing.
-use Rattle.std.proofs.Common.{ℕ, List, [], ◌∷◌, ◌++◌, refl, ap, ◌∙◌, subst₂}
+use Rattle.std.proofs.Common.{◌≡◌, ℕ, List, map, [], ◌∷◌, ◌++◌, refl, ap, ◌∙◌, subst₂}
 use Rattle.std.proofs.lemmas.List.{map_push}
 use Rattle.group.specs.Group.{Group, Lawful}
 use Rattle.coset.specs.Code.{Code, code}
@@ -7,8 +7,15 @@ use Rattle.calls.specs.declared.call.Call.{Call}
 use Rattle.calls.specs.Calls.{State, Answer, Obeys}
 use Rattle.calls.specs.History.{Event, Linked, Every}
 use Rattle.calls.specs.Promise.{Promise, WithinCeiling}
-use Rattle.calls.specs.Runs.{Runs}
 use Rattle.calls.proofs.Promised.{rules_suffice}
+
+-- These calls had these answers, each by the rules, and led from the state `first` to the state `last`.
+pub record Runs (c : Code) (first : State) (calls : List Call) (answers : List Answer) (last : State) : Type 0 where
+  pub history : List Event
+  pub its_calls : map (λ (e : Event). e.call) history ≡ calls
+  pub its_answers : map (λ (e : Event). e.answer) history ≡ answers
+  pub linked : Linked first history last
+  pub obeys : Every (λ e. Obeys c e.call e.answer e.before e.after) history
 
 linked_push : (h : List Event) (s : State) (e : Event) → Linked s h e.before → Linked s (h ++ (e ∷ [])) e.after
 linked_push [] s e linked = (linked, refl)

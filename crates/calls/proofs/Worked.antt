@@ -83,7 +83,7 @@ worked_examples = (
                                       fits_64,
                                       (
                                         inl (refl, refl),
-                                        (inr (λ e. omega arith, inl (inr (omega arith), refl)), tt),
+                                        (inr (λ e. omega arith, inl (inr (omega arith), refl)), ((refl, refl, refl), ((refl, refl, refl), ((refl, refl, refl), tt)))),
                                       ),
                                     ),
                                   ),

@@ -17,10 +17,10 @@ use Rattle.cells.specs.Device.{Names}
 use Rattle.calls.specs.Ledger.{noted}
 
 -- which record a call is about
-abbrev pub names : Call → ℕ
-names (Get k) = k
-names (Put k x) = k
-names (Renew k x) = k
+abbrev pub record_of : Call → ℕ
+record_of (Get k) = k
+record_of (Put k x) = k
+record_of (Renew k x) = k
 
 -- What refuses a call that finds the cells as in m, in the order of the checks.
 abbrev pub rows : Code → Cells → Call → List Row
@@ -99,6 +99,6 @@ Places (Device j f) k p = (j ≡ k) × Names f p None
 abbrev pub Obeys : Code → Call → Answer → State → State → Type 0
 Obeys c call (Ok r) before after =
     Served (rows c before.cells call) × Serves c call r before.cells after.cells
-    × (after.ledger ≡ noted call (value c before.cells (names call)) r before.ledger)
+    × (after.ledger ≡ noted call (value c before.cells (record_of call)) r before.ledger)
 Obeys c call (Err f) before after =
-    Refused (rows c before.cells call) (number f) × Places f (names call) (page_of c before.cells (names call)) × (after ≡ before)
+    Refused (rows c before.cells call) (number f) × Places f (record_of call) (page_of c before.cells (record_of call)) × (after ≡ before)

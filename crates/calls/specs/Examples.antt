@@ -8,7 +8,7 @@ use Rattle.cells.specs.Cells.{Cells}
 use Rattle.cells.specs.Sets.{Cellset}
 use Rattle.cells.specs.Rows.{Refused, Served}
 use Rattle.coset.specs.Code.{Code, code, every, Unreachable, Plan}
-use Rattle.calls.specs.Records.{making_rows, free, value}
+use Rattle.calls.specs.Records.{making_rows, records, page_of, first_of, free, value}
 use Rattle.calls.specs.Ledger.{rate}
 
 -- the cells with these labels, among the first cells of a record, each of which has a label of its own
@@ -19,6 +19,10 @@ labelled (a ∷ ls) i = i + 1 == a || labelled ls i
 -- one page with one record of n cells, of which those with these labels are set
 abbrev pub one_record : ℕ → List ℕ → Cells
 one_record n ls = record { pages = 1; width = n; set = λ p i. labelled ls i; wear = λ p. 0; limit = 1 }
+
+-- an array of so many pages and cells to a page, none of which is set
+abbrev pub array_of : ℕ → ℕ → Cells
+array_of pages width = record { pages = pages; width = width; set = λ p i. false; wear = λ p. 0; limit = 1 }
 
 -- s has the cells of one of these sets of labels
 abbrev pub Listed : Code → Cellset → List (List ℕ) → Type 0
@@ -46,6 +50,9 @@ pub data Example : Type 0 where
   -- a making with this width and n is accepted, or refused by a number
   accepted : Group → ℕ → ℕ → Example
   refused : Group → ℕ → ℕ → ℕ → Example
+  -- with n cells to a record, an array of so many pages and cells to a page has this many records, and record k lies in
+  -- this page, from this cell on
+  lies : Group → ℕ → ℕ → ℕ → ℕ → ℕ → ℕ → ℕ → Example
 
 -- what a plan of such a record is a plan for
 abbrev pub step_to : Group → ℕ → List ℕ → ℕ → ℕ
@@ -68,6 +75,9 @@ Shows (figures g e h) = (most_halves g (g.order - 1) ≡ e) × (figure g ≡ h)
 Shows (rates a w r) = rate a w ≡ r
 Shows (accepted g w n) = Served (making_rows g (one_record w []) n)
 Shows (refused g w n k) = Refused (making_rows g (one_record w []) n) k
+Shows (lies g n pages width k count page first) =
+    (records (code g n) (array_of pages width) ≡ count) × (page_of (code g n) (array_of pages width) k ≡ page)
+    × (first_of (code g n) (array_of pages width) k ≡ first)
 
 abbrev pub AllShow : List Example → Type 0
 AllShow [] = Unit {0}
@@ -95,7 +105,10 @@ worked =
     (rates 5 8 63 ∷
     (accepted (integers 64) 64 63 ∷
     (refused (integers 65) 64 63 30 ∷
-    (refused (integers 64) 64 64 31 ∷ []))))))))))))))))))))
+    (refused (integers 64) 64 64 31 ∷
+    (lies (integers 7) 6 2 64 13 20 1 18 ∷
+    (lies (integers 2) 1 64 1024 4095 4096 63 63 ∷
+    (lies (integers 65) 6 2 64 0 0 0 0 ∷ [])))))))))))))))))))))))
 
 -- The examples hold.
 abbrev pub Worked : Type 0

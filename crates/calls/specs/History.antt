@@ -5,7 +5,8 @@ use Rattle.calls.specs.declared.call.Call.TheVariants.{Get, Put, Renew}
 use Rattle.cells.specs.Cells.{Cells}
 use Rattle.coset.specs.Code.{Code}
 use Rattle.calls.specs.Records.{page_of, value}
-use Rattle.calls.specs.Calls.{State, Answer, names}
+use Rattle.calls.specs.Faults.{number}
+use Rattle.calls.specs.Calls.{State, Answer, record_of}
 
 -- A call with its answer, and the state that it found and the one that it left.
 pub record Event : Type 0 where
@@ -18,6 +19,11 @@ pub record Event : Type 0 where
 abbrev pub Linked : State → List Event → State → Type 0
 Linked s [] s' = s' ≡ s
 Linked s (e ∷ es) s' = (e.before ≡ s) × Linked e.after es s'
+
+-- the same of the cells alone: the ledgers may be those of different stores
+abbrev pub LinkedCells : Cells → List Event → Cells → Type 0
+LinkedCells m [] m' = m' ≡ m
+LinkedCells m (e ∷ es) m' = (e.before.cells ≡ m) × LinkedCells e.after.cells es m'
 
 abbrev pub Every : (Event → Type 0) → List Event → Type 0
 Every P [] = Unit {0}
@@ -35,6 +41,15 @@ count test = total (λ e. cond (test e) 1 0)
 abbrev pub accepted : Answer → Bool
 accepted (Ok r) = true
 accepted (Err f) = false
+
+-- an answer is the refusal by 42, full, or by 22, worn out
+abbrev pub RefusedFull : Answer → Type 0
+RefusedFull (Ok r) = ⊥
+RefusedFull (Err f) = number f ≡ 42
+
+abbrev pub RefusedWorn : Answer → Type 0
+RefusedWorn (Ok r) = ⊥
+RefusedWorn (Err f) = number f ≡ 22
 
 abbrev pub is_renewal : Call → Bool
 is_renewal (Get k) = false
@@ -57,7 +72,7 @@ changed c e = is_change c e.before.cells e.call && accepted e.answer
 
 -- whether the record of the call lies in page p
 abbrev pub on_page : Code → ℕ → Event → Bool
-on_page c p e = page_of c e.before.cells (names e.call) == p
+on_page c p e = page_of c e.before.cells (record_of e.call) == p
 
 -- how often page p was renewed
 abbrev pub renewals : Code → ℕ → List Event → ℕ
@@ -75,7 +90,7 @@ marks (Put k x) (Err f) = 0
 marks (Renew k x) (Ok r) = r
 marks (Renew k x) (Err f) = 0
 
--- x was last accepted for record k; after this call it is its value, if the call was accepted and gave k one
+-- the value last accepted for record k after this call, if it was x before
 abbrev pub accepts : ℕ → Call → Answer → ℕ → ℕ
 accepts k (Get j) a x = x
 accepts k (Put j y) a x = cond (accepted a && j == k) y x

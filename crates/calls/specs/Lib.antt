@@ -3,6 +3,7 @@ pub mod Faults
 pub mod Ledger
 pub mod Calls
 pub mod History
+pub mod DataSheet
 pub mod Runs
 pub mod Promise
 pub mod Examples

@@ -5,18 +5,16 @@ use Rattle.calls.specs.declared.call.Call.{Call}
 use Rattle.calls.specs.declared.call.Call.TheVariants.{Get, Put, Renew}
 use Rattle.group.specs.Group.{Group, Lawful, figure, step}
 use Rattle.cells.specs.Cells.{Cells, Cell}
-use Rattle.cells.specs.Sets.{Cellset}
-use Rattle.coset.specs.Code.{Code, code, size_of, Unreachable, Plan}
+use Rattle.coset.specs.Code.{Code, code, Unreachable}
 use Rattle.calls.specs.Records.{records, free, value}
-use Rattle.calls.specs.Faults.{number}
-use Rattle.calls.specs.Calls.{State, Answer, Sets, Obeys}
-use Rattle.calls.specs.Ledger.{ceiling, raised}
-use Rattle.calls.specs.History.{Event, Linked, Every, total, count, renewed, changed, on_page, renewals, changes, marks, last_accepted}
+use Rattle.calls.specs.Calls.{State, Answer, state_of, Serves, Obeys}
+use Rattle.calls.specs.Ledger.{ceiling, raised, blank}
+use Rattle.calls.specs.History.{Event, Linked, LinkedCells, Every, total, count, RefusedFull, renewed, changed, on_page, renewals, changes, marks, last_accepted}
+use Rattle.calls.specs.DataSheet.{DataSheet}
 
--- an answer is the refusal by 42, full
-abbrev pub RefusedFull : Answer → Type 0
-RefusedFull (Ok r) = ⊥
-RefusedFull (Err f) = number f ≡ 42
+-- n cells to a record are enough for the figure: at least as many as there are nonzero elements
+abbrev pub Enough : Group → ℕ → Type 0
+Enough g n = g.order ≤ n + 1
 
 -- Full exactly when nothing fits: a put of a record and a value that there are answers full if, and only if, the cells
 -- that are unset before it have no subset that sums to the step.
@@ -31,8 +29,7 @@ abbrev pub Fewest : Code → Call → Answer → Cells → Cells → Type 0
 Fewest c (Get k) a before after = Unit {0}
 Fewest c (Renew k x) a before after = Unit {0}
 Fewest c (Put k x) (Err f) before after = Unit {0}
-Fewest c (Put k x) (Ok r) before after =
-    (s : Cellset) × Plan c (free c before k) (step c.group (value c before k) x) s × Sets c k s before after × (r ≡ size_of c s)
+Fewest c (Put k x) (Ok r) before after = Serves c (Put k x) r before after
 
 -- Set cells last: only an accepted renewal of its page unsets a cell.
 abbrev pub Lasts : Code → Event → Type 0
@@ -61,8 +58,10 @@ pub record Promise (g : Group) (n : ℕ) (first : State) (calls : List Call) (an
   pub fewest : Every (λ e. Fewest (code g n) e.call e.answer e.before.cells e.after.cells) history
   -- changes per erase, for each page, however many records share it
   pub changes_per_erase :
-      g.order ≤ n + 1 → (p : ℕ) → p < first.cells.pages →
+      Enough g n → (p : ℕ) → p < first.cells.pages →
       figure g * renewals (code g n) p history ≤ changes (code g n) p history + figure g
+  -- when a put of the page can be full, and when the page can be worn out
+  pub data_sheet : Enough g n → DataSheet (code g n) first.cells history
   -- the wear of a page has grown by its accepted renewals
   pub erases :
       (p : ℕ) → p < first.cells.pages → last.cells.wear p ≡ first.cells.wear p + renewals (code g n) p history
@@ -93,3 +92,11 @@ RulesSuffice =
     (g : Group) → Lawful g → (n : ℕ) (first : State) (history : List Event) (last : State) → WithinCeiling first.ledger →
     Linked first history last → Every (λ e. Obeys (code g n) e.call e.answer e.before e.after) history →
     Promise g n first (map (λ (e : Event). e.call) history) (map (λ (e : Event). e.answer) history) last
+
+-- The same of calls that were made singly, each on a store of its own with a ledger of its own, over the same cells: they
+-- keep the promise together, with what one ledger would have counted.
+abbrev pub SingleCallsSuffice : Type 0
+SingleCallsSuffice =
+    (g : Group) → Lawful g → (n : ℕ) (first : Cells) (made : List Event) (last : Cells) → LinkedCells first made last →
+    Every (λ e. Obeys (code g n) e.call e.answer e.before e.after) made →
+    (counts : Ledger) × Promise g n (state_of first blank) (map (λ (e : Event). e.call) made) (map (λ (e : Event). e.answer) made) (state_of last counts)

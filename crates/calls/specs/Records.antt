@@ -1,10 +1,10 @@
 -- The records of a store: how many there are, which cells each has, and the value of each. Assumes nothing.
-use Rattle.std.specs.Prelude.{◌≡◌, ℕ, ◌+◌, ◌*◌, ◌/◌, ◌%◌, ◌<◌, ◌≤◌, min, Bool, cond, not, ◌&&◌, ◌⊎◌, List, [], ◌∷◌, ◌==◌, nat_le, nat_lt}
+use Rattle.std.specs.Prelude.{◌≡◌, ℕ, ◌+◌, ◌*◌, ◌/◌, ◌%◌, ◌<◌, ◌≤◌, min, Bool, true, cond, not, ◌&&◌, ◌⊎◌, ◌↔◌, List, [], ◌∷◌, ◌==◌, nat_le, nat_lt}
 use Rattle.group.specs.Group.{Group, unusable}
 use Rattle.cells.specs.Cells.{Cells}
-use Rattle.cells.specs.Rows.{Row, row}
+use Rattle.cells.specs.Rows.{Row, row, Served}
 use Rattle.cells.specs.Sets.{Cellset}
-use Rattle.coset.specs.Code.{Code, sum_of}
+use Rattle.coset.specs.Code.{Code, code, sum_of}
 
 -- What refuses a making of the group g, the array m and n cells to a record, in the order of the checks.
 abbrev pub making_rows : Group → Cells → ℕ → List Row
@@ -13,7 +13,7 @@ making_rows g m n =
     (row 31 ((n ≡ 0) ⊎ (63 < n)) ∷
     (row 32 (m.width < n) ∷ []))
 
--- whether nothing does
+-- whether the making is accepted: none of these rows holds (`MakesExactly`)
 abbrev pub makes : Code → Cells → Bool
 makes c m = not (c.group.order == unusable) && (nat_lt 0 c.cells && (nat_lt c.cells 64 && nat_le c.cells m.width))
 
@@ -49,3 +49,7 @@ free c m k i = not (held c m k i)
 -- the value of record k: the sum of the labels of its set cells
 abbrev pub value : Code → Cells → ℕ → ℕ
 value c m k = sum_of c (held c m k)
+
+-- A making is accepted exactly where none of its rows holds.
+abbrev pub MakesExactly : Type 0
+MakesExactly = (g : Group) (m : Cells) (n : ℕ) → (makes (code g n) m ≡ true) ↔ Served (making_rows g m n)

@@ -1,14 +1,18 @@
 -- That the statements are about something: lawful groups, and a history that obeys the rules. Assumes nothing.
 use Rattle.std.specs.Prelude.{◌≡◌, ℕ, ◌≤◌, Bool, true, false, List, [], ◌∷◌, Ok, Err}
 use Rattle.cells.specs.declared.fault.DeviceFault.TheVariants.{Worn}
-use Rattle.group.specs.Group.{Lawful}
+use Rattle.group.specs.Group.{Lawful, figure}
 use Rattle.group.specs.Integers.{integers}
+use Rattle.group.specs.Vectors.{vectors}
 use Rattle.calls.specs.declared.call.Call.{Call}
 use Rattle.calls.specs.declared.call.Call.TheVariants.{Get, Put, Renew}
 use Rattle.calls.specs.declared.fault.StoreFault.TheVariants.{NoRecord, NoValue, Full, Fits, Unreached, Device}
 use Rattle.coset.specs.Code.{code}
 use Rattle.calls.specs.Calls.{State, Answer, Obeys}
 use Rattle.calls.specs.History.{Event, Linked, Every}
+use Rattle.calls.specs.DataSheet.{Unset}
+use Rattle.calls.specs.Promise.{Enough}
+use Rattle.calls.specs.Examples.{labelled}
 
 -- the integers modulo v are a lawful group of order v
 abbrev pub IntegersLawful : Type 0
@@ -60,3 +64,51 @@ abbrev pub SampleObeys : Type 0
 SampleObeys =
     Linked empty sample written_again
     × Every (λ e. Obeys (code (integers 3) 1) e.call e.answer e.before e.after) sample
+
+-- A second sample, for the figure: one page with one record of three cells over the vectors of two bits, for which h is 1.
+-- The labels of the set cells, the page's wear, and the ledger:
+abbrev pub small : List ℕ → ℕ → ℕ → ℕ → ℕ → State
+small labels w changes renewals marked =
+    record {
+      cells = record { pages = 1; width = 3; set = λ p i. labelled labels i; wear = λ p. w; limit = 1 };
+      ledger = record { changes = changes; renewals = renewals; marked = marked };
+    }
+
+-- the states that the record goes through
+abbrev pub unset : State
+unset = small [] 0 0 0 0
+
+abbrev pub one_set : State
+one_set = small (3 ∷ []) 0 1 0 1
+
+abbrev pub two_set : State
+two_set = small (2 ∷ (3 ∷ [])) 0 2 0 2
+
+abbrev pub all_set : State
+all_set = small (1 ∷ (2 ∷ (3 ∷ []))) 0 3 0 3
+
+abbrev pub renewed_small : State
+renewed_small = small (1 ∷ []) 1 3 1 4
+
+abbrev pub all_set_again : State
+all_set_again = small (1 ∷ (2 ∷ (3 ∷ []))) 1 4 1 6
+
+-- three changes, a put that is refused as full, a renewal, one change, which is h, and the page is full again and worn out
+abbrev pub page_life : List Event
+page_life =
+    event (Put 0 3) (Ok 1) unset one_set ∷
+    (event (Put 0 1) (Ok 1) one_set two_set ∷
+    (event (Put 0 0) (Ok 1) two_set all_set ∷
+    (event (Put 0 1) (Err (Full 0)) all_set all_set ∷
+    (event (Renew 0 1) (Ok 1) all_set renewed_small ∷
+    (event (Put 0 0) (Ok 2) renewed_small all_set_again ∷
+    (event (Put 0 1) (Err (Full 0)) all_set_again all_set_again ∷
+    (event (Renew 0 1) (Err (Device 0 (Worn 0))) all_set_again all_set_again ∷ [])))))))
+
+-- It obeys the rules, from a page with no cell set, and the laws of the figure speak of it: its cells are enough, and h is 1.
+pub record PageLifeObeys : Type 0 where
+  pub figure_is : figure (vectors 2) ≡ 1
+  pub enough : Enough (vectors 2) 3
+  pub starts : Unset unset.cells 0
+  pub linked : Linked unset page_life all_set_again
+  pub obeys : Every (λ e. Obeys (code (vectors 2) 3) e.call e.answer e.before e.after) page_life

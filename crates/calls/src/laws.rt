@@ -1,19 +1,33 @@
 // Theorems over whole histories of calls, each on the contract of a function of its own.
 // They speak of the definitions alone; the calls of a store are to be shown to obey the rules that they start from.
 ghost use Rattle.calls.specs.Examples.{Worked};
-ghost use Rattle.calls.specs.Promise.{RulesSuffice};
-ghost use Rattle.calls.specs.Sample.{IntegersLawful, SampleObeys};
+ghost use Rattle.calls.specs.Promise.{RulesSuffice, SingleCallsSuffice};
+ghost use Rattle.calls.specs.Records.{MakesExactly};
+ghost use Rattle.calls.specs.Sample.{IntegersLawful, SampleObeys, PageLifeObeys};
 
-// Whatever obeys the rules of one call at each call keeps the whole promise over the list: changes per erase, a set
-// cell lasts until its page is renewed, a get answers the value last accepted, wear, ledger, full and fewest.
+// Whatever obeys the rules of one call at each call keeps the whole promise over the list: changes per erase and what a
+// data sheet may say besides, a set cell lasts until its page is renewed, a get answers the value last accepted, wear,
+// ledger, full and fewest.
 pub fn rules_suffice()
     ensures { RulesSuffice }
 {}
 
-// The rules can be obeyed: there are lawful groups of every order, and a history with every kind of call and refusal.
+// Calls made singly, each on a store made for it, keep it together: so do those of callers in C on an image.
+pub fn single_calls_suffice()
+    ensures { SingleCallsSuffice }
+{}
+
+// The rules can be obeyed: there are lawful groups of every order, a history with every kind of call and refusal, and
+// the life of a page with the figure 1, up to a renewal that is refused as worn out.
 pub fn rules_can_be_met()
     ensures lawful { IntegersLawful }
     ensures sample { SampleObeys }
+    ensures life { PageLifeObeys }
+{}
+
+// A making is accepted exactly where none of its rows holds.
+pub fn makings_agree()
+    ensures { MakesExactly }
 {}
 
 // The examples worked by hand hold of the definitions.

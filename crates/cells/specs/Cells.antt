@@ -2,7 +2,7 @@
 use Rattle.std.specs.Prelude.{◌≡◌, ℕ, ◌<◌, ◌≤◌, Bool, false, ◌&&◌, nat_lt}
 
 -- What a cell array means: its pages, the cells of each, which cells are set, and how often each page was erased of
--- how often it may be. An array that cannot be erased has no wear and the limit 0.
+-- how often it may be. An array that cannot be erased is given no wear and the limit 0.
 pub record Cells : Type 0 where
   pub pages : ℕ
   pub width : ℕ

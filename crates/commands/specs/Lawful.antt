@@ -1,4 +1,4 @@
--- The groups that group words stand for keep the laws. Assumes nothing.
+-- Proof that the groups of group words keep the laws, which `Factor` and `GroupWord` name. Assumes nothing.
 use Rattle.group.specs.Group.{Lawful}
 use Rattle.group.specs.Modulo.{integers_lawful}
 use Rattle.group.specs.Xor.{vectors_lawful}

@@ -5,7 +5,8 @@ use Rattle.std.proofs.lemmas.List.{get_or-set_same, get_or-set_other, get_or-rep
 use Rattle.group.specs.Group.{Group, Lawful, Usable, In, step}
 use Rattle.cells.specs.Sets.{Cellset}
 use Rattle.coset.specs.Code.{code}
-use Rattle.coset.specs.Plans.{Filled, fewest_at, label_of, turn}
+use Rattle.coset.specs.Plans.{Filled, fewest_at, turn}
+use Rattle.coset.specs.Code.{label_of}
 use Rattle.coset.specs.declared.planner.Table.{Table}
 
 -- an entry depends on the next row at elements alone

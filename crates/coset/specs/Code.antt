@@ -9,9 +9,13 @@ pub record Code : Type 0 where
   pub cells : ℕ
   pub label : ℕ → ℕ
 
--- The code with n cells to a record: cell 0 has the label 1, and after the last element the labels start again at 1.
+-- The label of cell i: cell 0 has the label 1, and after the last element the labels start again at 1.
+abbrev pub label_of : Group → ℕ → ℕ
+label_of g i = 1 + i % (g.order - 1)
+
+-- the code with n cells to a record
 abbrev pub code : Group → ℕ → Code
-code g n = record { group = g; cells = n; label = λ i. 1 + i % (g.order - 1) }
+code g n = record { group = g; cells = n; label = label_of g }
 
 -- the set of every cell
 abbrev pub every : Cellset

@@ -1,8 +1,6 @@
 // Sets of the cells of one record, by a bit for each cell.
 // A record has at most 63 cells, so no cell from 63 on is ever in a set.
-ghost use Rattle.std.specs.Prelude.{◌≡◌, ℕ, ◌<◌, ◌≤◌, false, not, ◌||◌, ◌==◌, if◌then◌else◌};
-ghost use Rattle.std.specs.Slice.Scan.{IsFirstPlace};
-ghost use Rattle.coset.specs.CellSets.{members_of};
+ghost use Rattle.std.specs.Prelude.{◌<◌};
 
 // the most cells that a record has
 pub const MAX_CELLS: usize = 63;
@@ -10,13 +8,25 @@ pub const MAX_CELLS: usize = 63;
 // a bit for each of these cells
 const ALL: u64 = u64::MAX >> 1;
 
-// Memory of a fixed size, since a put may not fail for want of it. Its default, which an `ArrayVec` asks for, is empty.
-#[derive(Clone, Copy, Default, PartialEq, Debug)]
+// Memory of a fixed size, since a put may not fail for want of it.
+#[derive(Clone, Copy, PartialEq, Debug)]
 pub struct CellSet {
     bits: u64,
+    ghost few: { bits < 9223372036854775808 },
+}
+
+// Empty. An `ArrayVec` asks for a default.
+impl Default for CellSet {
+    fn default() -> Self {
+        CellSet::empty()
+    }
 }
 
 impl CellSet {
+    ghost use Rattle.std.specs.Prelude.{◌≡◌, ℕ, ◌≤◌, false, not, ◌||◌, ◌==◌, if◌then◌else◌};
+    ghost use Rattle.std.specs.Slice.Scan.{IsFirstPlace};
+    ghost use Rattle.coset.specs.CellSets.{members_of};
+
     pub const fn empty() -> Self
         ensures { (i : ℕ) → members_of result i ≡ false }
     {

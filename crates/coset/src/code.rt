@@ -4,7 +4,7 @@ ghost use Rattle.std.specs.Prelude.{◌≡◌};
 ghost use Rattle.coset.specs.CellSets.{members_of};
 ghost use Rattle.coset.specs.Code.{sum_of};
 ghost use Rattle.coset.specs.Codes.{code_of};
-ghost use Rattle.coset.specs.Plans.{label_of};
+ghost use Rattle.coset.specs.Code.{label_of};
 
 use crate::cellset::CellSet;
 use group::interface::Group;
@@ -35,8 +35,8 @@ impl<G: Group> Code<G> {
         1 + turn as u32
     }
 
-    // What the labels of the cells of a set sum to. A loop from each cell of the set to the next: a chain over all cells
-    // branches at each, and nothing can foresee how.
+    // What the labels of the cells of a set sum to. A loop from each cell of the set to the next: a chain over all
+    // cells branches at each, and nothing can foresee how.
     pub fn label_sum(&self, set: &CellSet) -> u32
         ensures { result ≡ sum_of (code_of G.Group.meaning self.now) (members_of set.now) }
     {

@@ -1,10 +1,11 @@
 // The planner: the fewest free cells of a record whose labels sum to a given element.
 // A table of the fewest cells, by cell and element, is filled from the last cell to the first, and then walked back.
-ghost use Rattle.std.specs.Prelude.{◌≡◌, ℕ, ◌+◌, ◌-◌, ◌<◌, ◌≤◌, ◌==◌, min, replicate, slice_index};
+ghost use Rattle.std.specs.Prelude.{◌≡◌, ℕ, ◌+◌, ◌-◌, ◌<◌, ◌≤◌, ◌==◌, min, true, replicate, slice_index};
 ghost use Rattle.group.specs.Group.{In, Usable, step};
 ghost use Rattle.coset.specs.CellSets.{members_of};
 ghost use Rattle.coset.specs.Code.{Plan};
-ghost use Rattle.coset.specs.Plans.{Plans, First, Filled, fewest_at, label_of};
+ghost use Rattle.coset.specs.Plans.{Plans, First, Filled, fewest_at};
+ghost use Rattle.coset.specs.Code.{label_of};
 
 use crate::cellset::{CellSet, MAX_CELLS};
 use crate::code::Code;
@@ -124,6 +125,7 @@ impl<G: Group> Search<'_, G> {
         requires element { In (G.Group.meaning self.now.code.now.group) step }
         requires reached { fewest_at table.now 0 step < 255 }
         ensures plan { Plan (searched self.now) (members_of self.now.free.now) step (members_of result) }
+        ensures within { (i : ℕ) → members_of result i ≡ true → i < self.now.cells }
         ensures first { First (searched self.now) (members_of self.now.free.now) step (members_of result) }
     {
         let mut chosen = CellSet::empty();

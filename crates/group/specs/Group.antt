@@ -54,6 +54,6 @@ unfoldable pub most_halves : Group → ℕ → ℕ
 most_halves g zero = 0
 most_halves g (suc d) = max (halves g (suc d) g.order) (most_halves g d)
 
--- the number of changes that a page takes from one erase to the next
+-- h, the figure: a page takes so many changes, or more, from one erase to the next. `most_halves g (g.order - 1)` is e.
 unfoldable pub figure : Group → ℕ
 figure g = (g.order + 1 - most_halves g (g.order - 1)) / 4

@@ -1,4 +1,4 @@
--- The integers modulo v are an abelian group. Assumes nothing.
+-- Proof that the integers modulo v are an abelian group, which `Integers` names. Assumes nothing.
 use Rattle.std.specs.Prelude.{◌≡◌, ℕ, ◌+◌, ◌-◌, ◌%◌, ◌<◌, ◌≤◌, true}
 use Rattle.std.proofs.Common.{◌∙◌, sym, ap, mod-lt, mod-eq_of_lt, add_comm, add_assoc, zero-add, arith}
 use Rattle.std.proofs.Math.Nat.{mod-add-mod, add-mod-mod, mod_self}

@@ -1,4 +1,4 @@
--- What `numbered` gives at its elements, and that it is lawful. Assumes nothing.
+-- Proofs about `numbered`: what it gives at its elements, and that it is lawful. Assumes nothing.
 use Rattle.std.specs.Prelude.{◌≡◌, ℕ, ◌<◌, ◌≤◌, Bool, true, false, ◌&&◌, ◌⊎◌, ◌≢◌, refl}
 use Rattle.std.proofs.Common.{inl, inr, arith, lit≤}
 use Rattle.std.proofs.lemmas.Bool.{cases_eq, cases_lt}
@@ -76,9 +76,6 @@ module _ {g : Group} (laws : Lawful g) where
       inside (inr u) (inl i) (inr j) = omega (arith, laws.least, laws.outside_right a b j)
       inside (inr u) (inl i) (inl j) = laws.closed u a b i j
 
-  pub sum_small : (a b x : ℕ) → x ≡ g.sum a b → x < unusable
-  sum_small a b x e = omega (arith, laws.most, sum_in a b)
-
   pub opposite_in : (a : ℕ) → In g (g.opposite a)
   opposite_in a = inside (cases_eq g.order unusable) (cases_lt a g.order)
     where
@@ -86,9 +83,6 @@ module _ {g : Group} (laws : Lawful g) where
       inside (inl e) _ = omega (arith, laws.least, laws.never_opposite e a)
       inside (inr u) (inr i) = omega (arith, laws.least, laws.outside_opposite a i)
       inside (inr u) (inl i) = (laws.opposed u a i).0
-
-  pub opposite_small : (a x : ℕ) → x ≡ g.opposite a → x < unusable
-  opposite_small a x e = omega (arith, laws.most, opposite_in a)
 
   -- Away from the elements both are 0.
   pub sum_outside : (a b : ℕ) → (has g a && has g b) ≡ false → g.sum a b ≡ 0

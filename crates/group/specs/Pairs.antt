@@ -1,4 +1,4 @@
--- The direct product of two lawful groups is lawful. Assumes nothing.
+-- Proof that the direct product of two lawful groups is lawful, which `Product` names. Assumes nothing.
 use Rattle.std.specs.Prelude.{◌≡◌, ℕ, ◌+◌, ◌*◌, ◌/◌, ◌%◌, ◌<◌, ◌≤◌, true}
 use Rattle.std.proofs.Math.Arith.{digits_lt}
 use Rattle.std.proofs.Math.Nat.{zero-div, zero-mod}
@@ -8,10 +8,6 @@ use Rattle.std.proofs.lemmas.Bool.Decides.{nat_tests}
 use Rattle.group.specs.Group.{Group, In, Lawful, Usable, unusable}
 use Rattle.group.specs.Product.{DirectProduct, product, product_opposite, product_size, product_sum, product_usable}
 use Rattle.group.specs.NumberedLemmas.{Abelian, at_opposite, at_sum, numbered_lawful, opposite_in, sum_in}
-
--- the number of a pair is far below the limit of 32 bits
-pub pair_small : {h : Group} → Lawful h → (a b r : ℕ) → a < unusable → b < unusable → r ≡ h.order → a * r + b < 65 * 65
-pair_small right a b r i j e = omega (arith, mul-le a r 64 65 (omega arith) (omega (arith, right.most)))
 
 module _ {g h : Group} (left : Lawful g) (right : Lawful h) where
   pos : 0 < h.order

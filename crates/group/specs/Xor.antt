@@ -1,4 +1,4 @@
--- The vectors of m bits are an abelian group under exclusive or. Assumes nothing.
+-- Proof that the vectors of m bits are an abelian group under exclusive or, which `Vectors` names. Assumes nothing.
 use Rattle.std.specs.Prelude.{◌≡◌, ℕ, ◌^◌, ◌<◌, ◌≤◌, true, bit_xor}
 use Rattle.std.proofs.Common.{arith, pow_mono}
 use Rattle.std.specs.Int.Bits.{xor_assoc, xor_self, xor_zero_l}

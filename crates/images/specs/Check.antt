@@ -67,7 +67,8 @@ abbrev pub Checks : Format → List ℕ → Result Layout ImageFault → Type 0
 Checks f xs (Ok l) = Accepted f l xs
 Checks f xs (Err e) = Refused (image_rows f xs) (image_number e)
 
--- What a part over the bytes xs means that took the layout l: what the image does, or nothing where it is refused.
+-- The meaning of a part over the bytes xs with the layout l: that of a good image; over a refused one it has no pages
+-- and no width.
 pub record ReadsAs (f : Format) (xs : List ℕ) (l : Layout) : Type 0 where
   pub layout : Served (image_rows f xs) → Accepted f l xs
   pub accepted : Served (image_rows f xs) → part_cells f l xs ≡ decoded f xs

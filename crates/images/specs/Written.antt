@@ -45,9 +45,13 @@ page_section f m =
 unfoldable pub written : Format → Cells → List ℕ
 written f m = (m.pages ∷ count_section f m) ++ ((m.width / 256) ∷ ((m.width % 256) ∷ page_section f m))
 
+-- the bytes are the writing-out of the meaning that they are read as, and an image can hold it
+abbrev pub OwnWriting : Format → List ℕ → Type 0
+OwnWriting f xs = Writable f (decoded f xs) × (xs ≡ written f (decoded f xs))
+
 -- An image is accepted exactly when it is the writing-out of a meaning: where it is, of the one that it is read as.
 abbrev pub Exact : Format → List ℕ → {A B : Type 0} → Result A B → Type 0
-Exact f xs (Ok l) = Writable f (decoded f xs) × (xs ≡ written f (decoded f xs))
+Exact f xs (Ok l) = OwnWriting f xs
 Exact f xs (Err e) = (m : Cells) → Writable f m → xs ≢ written f m
 
 -- Whatever meaning the bytes are the writing-out of, they are read back as it.
@@ -56,4 +60,4 @@ ReadBack f xs = (m : Cells) → Writable f m → xs ≡ written f m → Alike m 
 
 -- The bytes of a good image are the writing-out of its cells.
 abbrev pub WrittenOut : Format → List ℕ → Type 0
-WrittenOut f xs = Served (image_rows f xs) → Writable f (decoded f xs) × (xs ≡ written f (decoded f xs))
+WrittenOut f xs = Served (image_rows f xs) → OwnWriting f xs

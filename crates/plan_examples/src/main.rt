@@ -63,5 +63,10 @@ fn main(rt: HostRuntime) -> io::Result<()> {
         code: Code::new(Integers::new(4), 1),
     };
     z4.show(&rt, &[], 2)?;
-    z4.show(&rt, &[], 1)
+    z4.show(&rt, &[], 1)?;
+    let z64 = Named {
+        name: "Z64, 63 cells",
+        code: Code::new(Integers::new(64), 63),
+    };
+    z64.show(&rt, &[], 63)
 }

@@ -29,10 +29,7 @@ use Rattle.group.specs.Group.{unusable}
 use Rattle.commands.specs.Spots.{spot, Stopped, Passed}
 use Rattle.commands.specs.Lawful.{word_lawful}
 use Rattle.scan.specs.Pieces.{cut}
-use Rattle.commands.specs.declared.fault.Refusal.{Refusal}
-use Rattle.commands.specs.Faults.{line_number}
 use Rattle.commands.specs.Orders.{head_spots, Headings}
-use Rattle.script.specs.declared.fault.Cause.TheVariants.{Line}
 use Rattle.script.specs.declared.fault.HeadPlace.{HeadPlace}
 use Rattle.script.specs.declared.fault.Stop.{Stop}
 use Rattle.script.specs.declared.fault.Stop.TheVariants.{Fault, NoMemory}
@@ -175,23 +172,7 @@ module _ (script : List ℕ) (l : List ℕ × ℕ) (rest : List (List ℕ × ℕ
   started : (out : List Reply) → Starts (l ∷ rest) out → Prints script out
   started out starts = inr (short, subst (λ ls. Starts ls out) (sym lines) starts)
 
-  -- a head that is not well written
-  pub head_misread :
-      (e : ℕ × Refusal) → e.0 ≡ l.1 → Stopped (head_spots l.0) (line_number e.1.fault) e.1.column →
-      Prints script (RefusedLine (record { cause = Line e.1.fault; line = e.0; column = e.1.column }) ∷ [])
-  head_misread e at stopped =
-      started (RefusedLine (record { cause = Line e.1.fault; line = e.0; column = e.1.column }) ∷ []) (
-      inl (
-      record {
-        fault = e.1.fault;
-        column = e.1.column;
-        stopped = stopped;
-        prints = ap (λ k. refusal (Line e.1.fault) k e.1.column ∷ []) at;
-      }
-      )
-      )
-
-  -- one that is
+  -- a head that is well written
   pub head_read :
       {A : Type 0} (items : A → List Reply) (h : Head GroupWord Number) (r : Result A Stop) → Passed (head_spots l.0) × Headings l.0 h → Opens items l.1 h rest r →
       Answers items script r

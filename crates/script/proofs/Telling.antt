@@ -5,7 +5,7 @@ use Rattle.calls.specs.declared.call.Call.{Call}
 use Rattle.calls.specs.declared.call.Call.TheVariants.{Get, Put, Renew}
 use Rattle.calls.specs.Calls.{State, Answer, Obeys}
 use Rattle.calls.specs.History.{Event}
-use Rattle.calls.specs.Promise.{RefusedFull}
+use Rattle.calls.specs.History.{RefusedFull}
 use Rattle.commands.specs.declared.command.Command.{Command}
 use Rattle.commands.specs.declared.word.Number.{Number}
 use Rattle.commands.specs.declared.command.Command.TheVariants.{Put as OrderPut, Renew as OrderRenew, Save as OrderSave, Get as OrderGet}

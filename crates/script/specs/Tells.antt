@@ -9,7 +9,7 @@ use Rattle.calls.specs.declared.fault.StoreFault.{StoreFault}
 use Rattle.calls.specs.declared.fault.StoreFault.TheVariants.{NoRecord, NoValue, Full, Fits, Unreached, Device}
 use Rattle.calls.specs.Calls.{State, Answer, Obeys}
 use Rattle.calls.specs.History.{Event, Linked, Every}
-use Rattle.calls.specs.Promise.{RefusedFull}
+use Rattle.calls.specs.History.{RefusedFull}
 use Rattle.calls.specs.Records.{records}
 use Rattle.commands.specs.declared.fault.LineFault.{LineFault}
 use Rattle.commands.specs.Faults.{line_number}

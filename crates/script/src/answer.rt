@@ -3,7 +3,7 @@
 ghost use Rattle.std.specs.Prelude.{◌≡◌, Decides, MatchResult, IsOkAnd};
 ghost use Rattle.coset.specs.Code.{code};
 ghost use Rattle.calls.specs.Calls.{state_of};
-ghost use Rattle.calls.specs.Promise.{RefusedFull};
+ghost use Rattle.calls.specs.History.{RefusedFull};
 ghost use Rattle.coset.specs.Codes.{code_of};
 ghost use Rattle.store.specs.Keeps.{Keeps, state};
 ghost use Rattle.script.specs.Tells.{refused, OrderTells, LineTells, Course, spoken};

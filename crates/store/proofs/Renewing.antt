@@ -65,7 +65,7 @@ module _ (c : Code) (m : Cells) (k : ℕ) (found : Found) (known : Known c m k f
 
     module _ (plans : List CellSet) (planned : PlansOfPage c m (page_of c m k) (k % per_page c m) x (per_page c m) plans) where
       abbrev d₀ : CellSet
-      d₀ = record { bits = 0 }
+      d₀ = record { bits = 0; few = omega arith }
 
       t : There c m k
       t = there c m k known.place.0

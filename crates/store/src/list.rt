@@ -1,6 +1,6 @@
 // Lists of calls on a store: each is served in order, and the whole promise holds of the list.
 // Where there is no memory for the answers nothing is done.
-ghost use Rattle.std.specs.Prelude.{◌≡◌, map, IfOk, OnErr};
+ghost use Rattle.std.specs.Prelude.{◌≡◌, [], map, IfOk, OnErr, IsOk};
 ghost use Rattle.coset.specs.Code.{code};
 ghost use Rattle.calls.specs.declared.call.Call.{Call as CallMeaning};
 ghost use Rattle.calls.specs.Calls.{state_of, Obeys};
@@ -62,6 +62,7 @@ impl<G: Group, A: CellArray> Store<G, A> {
         ensures keeps { Keeps A.CellArray.held A.CellArray.intact self.old self.new }
         ensures promise { IfOk result (λ answers. Promise (G.Group.meaning self.old.code.group) self.old.code.cells (state A.CellArray.cells self.old) (map C.Request.call calls.now) answers.items (state A.CellArray.cells self.new)) }
         ensures refused { OnErr result (self.new ≡ self.old) }
+        ensures nothing { calls.now ≡ [] → IsOk result }
     {
         // The counts have 32 bits, which the proof learns where they are read.
         let _largest = largest(&self.ledger);

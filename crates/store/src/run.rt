@@ -1,6 +1,6 @@
 // The whole promise on one call: a store is made of a code and an array, and a list of calls is applied to it.
 // The array is lent, so that its owner has it again with all that the calls left there.
-ghost use Rattle.std.specs.Prelude.{◌≡◌, map, IfOk, OnErr};
+ghost use Rattle.std.specs.Prelude.{◌≡◌, [], map, IfOk, OnErr, IsOk};
 ghost use Rattle.cells.specs.Device.{Kept};
 ghost use Rattle.calls.specs.Calls.{state_of, Obeys};
 ghost use Rattle.calls.specs.declared.ledger.Ledger.{Ledger as Counts};
@@ -36,6 +36,7 @@ pub fn run_calls<G: Group + Drop, A: Erasable>(
     ensures kept { Kept A.CellArray.held A.CellArray.intact array.old array.new }
     ensures promise { IfOk result (λ run. Promise (G.Group.meaning code.group) code.cells (state_of (A.CellArray.cells array.old) blank) calls.now run.answers.items (state_of (A.CellArray.cells array.new) run.ledger)) }
     ensures refused { OnErr result (array.new ≡ array.old) }
+    ensures nothing { calls.now ≡ [] → IsOk result }
 {
     let (array, run) = apply_to(heap, code, array, calls);
     let _ = array;
@@ -54,6 +55,7 @@ pub fn run_accesses<G: Group + Drop, A: CellArray>(
     ensures kept { Kept A.CellArray.held A.CellArray.intact array.old array.new }
     ensures promise { IfOk result (λ run. Promise (G.Group.meaning code.group) code.cells (state_of (A.CellArray.cells array.old) blank) (map as_call accesses.now) run.answers.items (state_of (A.CellArray.cells array.new) run.ledger)) }
     ensures refused { OnErr result (array.new ≡ array.old) }
+    ensures nothing { accesses.now ≡ [] → IsOk result }
 {
     let (array, run) = apply_to(heap, code, array, accesses);
     let _ = array;
@@ -90,6 +92,7 @@ fn apply_to<G: Group + Drop, A: CellArray, C: Request<A>>(
     ensures kept { Kept A.CellArray.held A.CellArray.intact array result.0 }
     ensures promise { IfOk result.1 (λ run. Promise (G.Group.meaning code.group) code.cells (state_of (A.CellArray.cells array) blank) (map C.Request.call calls.now) run.answers.items (state_of (A.CellArray.cells result.0) run.ledger)) }
     ensures refused { OnErr result.1 (result.0 ≡ array) }
+    ensures nothing { calls.now ≡ [] → IsOk result.1 }
 {
     let mut store = Store::new(code, array);
     let applied = store.apply(heap, calls);

@@ -26,3 +26,11 @@ returns-else-first-lt-MAX_CELLS c = record {
   ];
   hit = λ h. absurd (omega arith);
 }
+
+pub returns-then-from-ge-MAX_CELLS : goal.returns-then-from-ge-MAX_CELLS
+returns-then-from-ge-MAX_CELLS c = record {
+  low = c.requires;
+  high = omega arith;
+  before = λ i late early. none_beyond c.args.self.now i (omega arith);
+  hit = λ h. absurd (omega arith);
+}

@@ -2,7 +2,8 @@ use Rattle.std.proofs.Common.{◌≡◌, ℕ, ◌+◌, ◌-◌, Bool, min, [], l
 use Rattle.std.proofs.lemmas.List.{length-set, get_or-set_same}
 use Rattle.group.specs.Group.{In}
 use Rattle.coset.specs.CellSets.{members_of}
-use Rattle.coset.specs.Plans.{fewest_at, label_of, turn}
+use Rattle.coset.specs.Plans.{fewest_at, turn}
+use Rattle.coset.specs.Code.{label_of}
 use Rattle.coset.proofs.Rows.{first_row, none_reached, row_put, filled_more}
 use Rattle.coset.proofs.planner.Search.fill.Goals as goal
 use Rattle.coset.proofs.planner.Search.fill.Goals.{then-contains, else-contains}

@@ -1,7 +1,7 @@
 use Rattle.std.proofs.Common.{◌≡◌, ℕ, ◌<◌, List, length, set, get_or, below_more, ap, ◌∙◌, arith}
 use Rattle.std.proofs.lemmas.List.{get_or-set_same, get_or-set_other, length-set}
 use Rattle.group.specs.Group.{Group, step}
-use Rattle.coset.specs.Plans.{label_of}
+use Rattle.coset.specs.Code.{label_of}
 use Rattle.coset.proofs.planner.Search.moved.Goals as goal
 
 pub loop-s-preserved : goal.loop-s-preserved

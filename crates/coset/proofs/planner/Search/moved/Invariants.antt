@@ -1,6 +1,6 @@
 use Rattle.std.proofs.Common.{◌≡◌, ℕ, ◌<◌, length, get_or}
 use Rattle.group.specs.Group.{step}
-use Rattle.coset.specs.Plans.{label_of}
+use Rattle.coset.specs.Code.{label_of}
 use Rattle.coset.proofs.planner.Search.moved.Given as goal
 
 abbrev pub invariant-loop-s : goal.invariant-loop-s

@@ -64,6 +64,7 @@ returns g c =
       plan =
           walk_ends _ laws c.args.self.now.usable c.args.self.now.cells _ c.args.table.now c.requires.filled c.args.step
           c.loop-cell.cell (omega arith) _ _ c.loop-cell.invariant;
+      within = λ i member. let early = (c.loop-cell.invariant.within i member).1 in omega arith;
       first =
           walk_first _ laws c.args.self.now.usable c.args.self.now.cells _ c.args.table.now c.requires.filled c.args.step
           c.loop-cell.cell (omega arith) _ _ c.loop-cell.invariant;

@@ -1,9 +1,9 @@
-use Rattle.std.proofs.Common.{[], ◌∷◌, ◌++◌, ◌+◌, map, take, vec_items, sym, ap, ◌∙◌, subst, subst₂, arith}
+use Rattle.std.proofs.Common.{[], ◌∷◌, ◌++◌, ◌+◌, map, take, vec_items, sym, refl, ap, ◌∙◌, subst, subst₂, arith}
 use Rattle.std.proofs.lemmas.List.{take_more, take_all, map_push}
 use Rattle.coset.specs.Code.{code}
 use Rattle.coset.specs.Codes.{code_of}
 use Rattle.calls.specs.Calls.{state_of, Obeys}
-use Rattle.calls.specs.Runs.{Runs}
+use Rattle.calls.proofs.Running.{Runs}
 use Rattle.calls.proofs.Running.{runs_more, runs_promise}
 use Rattle.store.proofs.store.Store.apply.Goals as goal
 
@@ -42,4 +42,5 @@ returns g c =
           runs_promise group (g.met.G.Group.lawful c.args.self.now.code.group) n first (map call c.args.calls.now) (vec_items c.loop-call.answers) last
           c.largest-largest.ensures (subst (λ calls. Runs (code group n) first (map call calls) (vec_items c.loop-call.answers) last) all inv.3);
       refused = tt;
+      nothing = λ _. refl;
     }

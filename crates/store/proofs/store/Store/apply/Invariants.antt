@@ -1,7 +1,7 @@
 use Rattle.std.proofs.Common.{◌≡◌, ◌≤◌, map, length, take, vec_items, vec_len, vec_capacity}
 use Rattle.coset.specs.Code.{code}
 use Rattle.calls.specs.Calls.{state_of}
-use Rattle.calls.specs.Runs.{Runs}
+use Rattle.calls.proofs.Running.{Runs}
 use Rattle.store.specs.Keeps.{Keeps}
 use Rattle.store.proofs.store.Store.apply.Given as goal
 

@@ -43,7 +43,7 @@ loop-r-preserved g c =
     (page_more co m page named c.args.value c.loop-r.r c.loop-r.plans.items plan c.loop-r.invariant
     (subst (λ d. Plan co every d (members_of plan)) is
     (plan_free co (members_of c.complement-all.result) every c.if-r-record.target (members_of plan)
-    (λ i h. c.complement-all.ensures i (omega arith) ∙ ap not (c.empty.ensures i)) c.in_ok-plan.ensures)))
+    (λ i h. c.complement-all.ensures i (omega arith) ∙ ap not (c.empty.ensures i)) c.in_ok-plan.ensures.0)))
 
 pub returns : goal.returns
 returns g c =
