@@ -21,7 +21,7 @@ use Rattle.calls.specs.Ledger.{blank}
 use Rattle.calls.specs.Faults.{number}
 use Rattle.calls.specs.Records.{making_rows}
 use Rattle.calls.specs.Calls.{State, state_of, Obeys}
-use Rattle.c_entry.specs.Entry.{entry_rows, ServedOn, RefusedOn, Answers, told, Enters}
+use Rattle.c_entry.specs.Entry.{entry_rows, ServedOn, RefusedOn, Answers, answer_number, CallsOnImage}
 use Rattle.c_entry.specs.Faults.{entry_number}
 use Rattle.c_entry.specs.declared.fault.EntryFault.{EntryFault}
 use Rattle.c_entry.proofs.Sizes.{small_answer}
@@ -75,9 +75,9 @@ module _ (g : Group) (n : ℕ) (call : Call) (xs : List ℕ) where
             counts = counts;
             obeys = obeyed;
             good = still.0;
-            was = exact.1;
-            bytes = after_bytes;
-            small = small_answer g laws (decoded Flash xs) exact.0.narrow n makes call a (decoded Flash ys) obeyed.1;
+            written_before = exact.1;
+            written_after = after_bytes;
+            small = small_answer g laws (decoded Flash xs) exact.0.width_most n makes call a (decoded Flash ys) obeyed.1;
           }
 
       pub call_refused :
@@ -89,15 +89,15 @@ module _ (g : Group) (n : ℕ) (call : Call) (xs : List ℕ) where
             refused =
                 refused_rest (image_rows Flash xs) _ (number f) good
                 (refused_rest (making_rows g (decoded Flash xs) n) _ (number f) makes obeys.0);
-            bytes = after_bytes ∙ ap (written Flash) (sym after ∙ same) ∙ sym exact.1;
+            unchanged = after_bytes ∙ ap (written Flash) (sym after ∙ same) ∙ sym exact.1;
           }
 
--- the number that is told of an answer
-pub told_enters : (g : Group) (n : ℕ) (call : Call) (xs ys : List ℕ) (r : Result ℕ EntryFault) → Answers g n call xs ys r → Enters g n call xs ys (told r)
-told_enters g n call xs ys (Ok a) served = inl served
-told_enters g n call xs ys (Err f) refused = inr (entry_number f, refused, refl)
+-- the number that stands for an answer
+pub calls_on_image : (g : Group) (n : ℕ) (call : Call) (xs ys : List ℕ) (r : Result ℕ EntryFault) → Answers g n call xs ys r → CallsOnImage g n call xs ys (answer_number r)
+calls_on_image g n call xs ys (Ok a) served = inl served
+calls_on_image g n call xs ys (Err f) refused = inr (entry_number f, refused, refl)
 
 -- a get alters no byte: the image is the writing-out of its cells, and these are as they were
-pub get_alters_nothing : (g : Group) (n k : ℕ) (xs ys : List ℕ) (a : ℕ) → Enters g n (Get k) xs ys a → ys ≡ xs
-get_alters_nothing g n k xs ys a (inl served) = served.bytes ∙ ap (written Flash) served.obeys.1.1 ∙ sym served.was
-get_alters_nothing g n k xs ys a (inr refused) = refused.1.bytes
+pub get_alters_nothing : (g : Group) (n k : ℕ) (xs ys : List ℕ) (a : ℕ) → CallsOnImage g n (Get k) xs ys a → ys ≡ xs
+get_alters_nothing g n k xs ys a (inl served) = served.written_after ∙ ap (written Flash) served.obeys.1.1 ∙ sym served.written_before
+get_alters_nothing g n k xs ys a (inr refused) = refused.1.unchanged

@@ -19,40 +19,41 @@ use Rattle.c_entry.specs.Faults.{entry_number}
 
 -- The group of a kind and a parameter: 0 for integers, 1 for vectors. Any other kind names the integers modulo 0, which
 -- cannot be used.
-abbrev pub named : ℕ → ℕ → Group
-named k m = cond (k == 0) (integers m) (cond (k == 1) (vectors m) (integers 0))
+abbrev pub group_named : ℕ → ℕ → Group
+group_named k m = cond (k == 0) (integers m) (cond (k == 1) (vectors m) (integers 0))
 
 -- The checks of a call on the image xs, in their order: those of the image, of the making, and of the call.
 abbrev pub entry_rows : Group → ℕ → Call → List ℕ → List Row
 entry_rows g n call xs = image_rows Flash xs ++ (making_rows g (decoded Flash xs) n ++ rows (code g n) (decoded Flash xs) call)
 
--- A served call on the image xs, which is ys afterwards: the call obeys the rules of a store whose cells are those of the
--- image, with a ledger that nobody keeps. Before and afterwards the image is the writing-out of its cells, so that every
--- byte is known from them.
+-- A served call on the image xs, which is ys afterwards: the call obeys the rules of a store whose cells are those of
+-- the image, with a ledger that nobody keeps. Before and afterwards the image is the writing-out of its cells, so that
+-- every byte is known from them.
 pub record ServedOn (g : Group) (n : ℕ) (call : Call) (xs ys : List ℕ) (a : ℕ) : Type 0 where
   pub served : Served (entry_rows g n call xs)
   pub counts : Ledger
   pub obeys : Obeys (code g n) call (Ok a) (state_of (decoded Flash xs) blank) (state_of (decoded Flash ys) counts)
   pub good : Served (image_rows Flash ys)
-  pub was : xs ≡ written Flash (decoded Flash xs)
-  pub bytes : ys ≡ written Flash (decoded Flash ys)
+  pub written_before : xs ≡ written Flash (decoded Flash xs)
+  pub written_after : ys ≡ written Flash (decoded Flash ys)
   pub small : a ≤ 1024
 
 -- A refused call, by the first row that holds; every byte is as it was.
 pub record RefusedOn (g : Group) (n : ℕ) (call : Call) (xs ys : List ℕ) (k : ℕ) : Type 0 where
   pub refused : Refused (entry_rows g n call xs) k
-  pub bytes : ys ≡ xs
+  pub unchanged : ys ≡ xs
 
--- the answer, with the fault of a refusal
+-- a call on the image xs, which is ys afterwards, is served with an answer or refused with a fault
 abbrev pub Answers : Group → ℕ → Call → List ℕ → List ℕ → Result ℕ EntryFault → Type 0
 Answers g n call xs ys (Ok a) = ServedOn g n call xs ys a
 Answers g n call xs ys (Err f) = RefusedOn g n call xs ys (entry_number f)
 
--- the number that stands for an answer
-abbrev pub told : Result ℕ EntryFault → ℕ
-told (Ok a) = a
-told (Err f) = 10000 + entry_number f
+-- the number that a caller in C gets for an answer
+abbrev pub answer_number : Result ℕ EntryFault → ℕ
+answer_number (Ok a) = a
+answer_number (Err f) = 10000 + entry_number f
 
--- The number that the caller is told: the value or the count of a served call, or 10,000 and the number of the refusal.
-abbrev pub Enters : Group → ℕ → Call → List ℕ → List ℕ → ℕ → Type 0
-Enters g n call xs ys a = ServedOn g n call xs ys a ⊎ ((k : ℕ) × RefusedOn g n call xs ys k × (a ≡ 10000 + k))
+-- A call from C on the bytes xs of an image answers a, and leaves the bytes ys. The answer is the value or the count of
+-- a served call, or 10,000 and the number of the refusal.
+abbrev pub CallsOnImage : Group → ℕ → Call → List ℕ → List ℕ → ℕ → Type 0
+CallsOnImage g n call xs ys a = ServedOn g n call xs ys a ⊎ ((k : ℕ) × RefusedOn g n call xs ys k × (a ≡ 10000 + k))

@@ -1,7 +1,7 @@
 // One call on an image: the checks of the image, of the making and of the call in this order, and then the call.
 // Nothing but the image is remembered from one call to the next, and nothing allocates.
 ghost use Rattle.std.specs.Prelude.{◌≡◌};
-ghost use Rattle.c_entry.specs.Entry.{named, Answers, Enters, told as told_number};
+ghost use Rattle.c_entry.specs.Entry.{group_named, Answers, CallsOnImage, answer_number};
 
 use crate::fault::EntryFault;
 use calls::call::Call;
@@ -20,10 +20,10 @@ const REFUSED: u32 = 10_000;
 // Makes a call with the group of a kind and a parameter. Each kind has a call of its own, so that the compiler makes
 // code for its group.
 pub(crate) fn enter(kind: u32, parameter: u32, n: u32, call: Call, image: &mut [u8]) -> u32
-    ensures { Enters (named kind parameter) n call image.old image.new result }
+    ensures { CallsOnImage (group_named kind parameter) n call image.old image.new result }
 {
     let n = n as usize;
-    told(match kind {
+    number_of(match kind {
         0 => serve(Integers::new(parameter), n, call, image),
         1 => serve(Vectors::new(parameter), n, call, image),
         // the integers modulo 0, which cannot be used
@@ -50,9 +50,9 @@ fn serve<G: Group + Drop>(
     Ok(run_call(code, &mut part, call)?)
 }
 
-// What the caller is told of an answer.
-fn told(answer: Result<u32, EntryFault>) -> u32
-    ensures { result ≡ told_number answer }
+// The number that a caller in C gets for an answer.
+fn number_of(answer: Result<u32, EntryFault>) -> u32
+    ensures { result ≡ answer_number answer }
 {
     answer.unwrap_or_else(|fault| REFUSED + fault.number())
 }

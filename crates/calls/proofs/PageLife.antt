@@ -8,14 +8,14 @@ use Rattle.coset.specs.Code.{Code, code, every, sum_below, Unreachable, Plan}
 use Rattle.calls.specs.Records.{free, Within}
 use Rattle.calls.specs.Calls.{Sets, Renewed, renewed_value, sizes}
 use Rattle.calls.specs.Examples.{labelled}
-use Rattle.calls.specs.Sample.{small, all_set, renewed_small, PageLifeObeys}
+use Rattle.calls.specs.Sample.{one_page, all_set, one_set_again, PageLifeObeys}
 use Rattle.calls.proofs.Subsets.{none_reaches, plan_by}
 
 abbrev c : Code
 c = code (vectors 2) 3
 
 abbrev page : List ℕ → ℕ → Cells
-page ls w = (small ls w 0 0 0).cells
+page ls w = (one_page 3 ls w 0 0 0).cells
 
 -- a put that sets cells: each of the three is set if it was or is one of them
 puts : (ls more now : List ℕ) (w : ℕ) → ((i : ℕ) → i < 3 → labelled now i ≡ (labelled ls i || labelled more i)) → Sets c 0 (labelled more) (page ls w) (page now w)
@@ -59,7 +59,7 @@ from_empty : Plan c every 1 (labelled (1 ∷ []))
 unfolding sum_below size_below
 from_empty = plan_by c every 1 (labelled (1 ∷ [])) refl
 
-renews : Renewed c 0 1 all_set.cells renewed_small.cells 1
+renews : Renewed c 0 1 all_set.cells one_set_again.cells 1
 unfolding sum_below size_below sizes
 renews =
     record {

@@ -1,7 +1,7 @@
 -- The sample history obeys the rules. Assumes nothing.
-use Rattle.std.proofs.Common.{◌≡◌, ℕ, zero, suc, ◌+◌, ◌*◌, ◌<◌, Bool, true, false, ◌||◌, [], ◌∷◌, refl, inl, inr, arith}
+use Rattle.std.proofs.Common.{◌≡◌, ℕ, zero, suc, ◌+◌, ◌*◌, ◌<◌, ◌||◌, List, [], ◌∷◌, refl, inl, inr, arith}
 use Rattle.std.proofs.lemmas.Bool.Decides.{nat_tests}
-use Rattle.cells.specs.Cells.{Cell}
+use Rattle.cells.specs.Cells.{Cells, Cell}
 use Rattle.cells.specs.Sets.{Cellset, size_below}
 use Rattle.group.specs.Integers.{integers}
 use Rattle.group.specs.Modulo.{integers_lawful}
@@ -9,7 +9,7 @@ use Rattle.coset.specs.Code.{Code, code, every, sum_below, Unreachable, Plan}
 use Rattle.calls.specs.Records.{free, Within}
 use Rattle.calls.specs.Calls.{Sets, Renewed, renewed_value, sizes}
 use Rattle.calls.specs.Examples.{labelled}
-use Rattle.calls.specs.Sample.{IntegersLawful, tiny, written_once, renewed_once, SampleObeys}
+use Rattle.calls.specs.Sample.{IntegersLawful, one_page, written_once, renewed_once, SampleObeys}
 use Rattle.calls.proofs.Subsets.{none_reaches, plan_by}
 
 abbrev c : Code
@@ -21,33 +21,39 @@ integers_lawful_all v lo hi = (integers_lawful v, order)
     order : (integers v).order ≡ v
     order = grind (arith, nat_tests)
 
--- the cells of the one record: free where b is false
-abbrev open_cells : Bool → ℕ → Cellset
-open_cells b w = free c (tiny b w 0 0 0).cells 0
+-- a page of one cell, set or not by its label
+abbrev page : List ℕ → ℕ → Cells
+page ls w = (one_page 1 ls w 0 0 0).cells
+
+-- which cells of its record are free
+abbrev open_cells : List ℕ → ℕ → Cellset
+open_cells ls w = free c (page ls w) 0
 
 -- a put that sets the one cell, and one that sets none
 module _ (w : ℕ) where
-  set_one : Sets c 0 (labelled (1 ∷ [])) (tiny false w 0 0 0).cells (tiny true w 0 0 0).cells
+  set_one : Sets c 0 (labelled (1 ∷ [])) (page [] w) (page (1 ∷ []) w)
   set_one =
       record {
         shape = record { pages = refl; width = refl; limit = refl };
-        here = one;
+        here = here;
         others = other;
         wear = λ p h. refl;
       }
     where
-      one : (i : ℕ) → i < 1 → true ≡ (false || labelled (1 ∷ []) i)
-      one zero h = refl
-      one (suc i) h = absurd (omega arith)
+      here : (i : ℕ) → i < 1 → labelled (1 ∷ []) (0 + i) ≡ (labelled [] (0 + i) || labelled (1 ∷ []) i)
+      here zero h = refl
+      here (suc i) h = absurd (omega arith)
 
-      other : (p j : ℕ) → Cell (tiny false w 0 0 0).cells p j → (Within c (tiny false w 0 0 0).cells 0 p j → ⊥) → true ≡ false
-      other zero zero cell outside = absurd (outside (record { page = refl; from = omega arith; below = omega arith }))
-      other zero (suc j) cell outside = let h = cell.cell in absurd (omega arith)
-      other (suc p) j cell outside = let h = cell.page in absurd (omega arith)
+      other : (p j : ℕ) → Cell (page [] w) p j → (Within c (page [] w) 0 p j → ⊥) → labelled (1 ∷ []) j ≡ labelled [] j
+      other p j cell outside = absurd (let at = cell.page in let lt = cell.cell in outside (record { page = omega arith; from = omega arith; below = omega arith }))
 
-  set_none : Sets c 0 (labelled []) (tiny true w 0 0 0).cells (tiny true w 0 0 0).cells
+  set_none : Sets c 0 (labelled []) (page (1 ∷ []) w) (page (1 ∷ []) w)
   set_none =
-      record { shape = record { pages = refl; width = refl; limit = refl }; here = λ i h. refl; others = λ p j cell outside. refl; wear = λ p h. refl }
+      record { shape = record { pages = refl; width = refl; limit = refl }; here = here; others = λ p j cell outside. refl; wear = λ p h. refl }
+    where
+      here : (i : ℕ) → i < 1 → labelled (1 ∷ []) (0 + i) ≡ (labelled (1 ∷ []) (0 + i) || labelled [] i)
+      here zero h = refl
+      here (suc i) h = absurd (omega arith)
 
 renews : Renewed c 0 0 written_once.cells renewed_once.cells 0
 unfolding sum_below size_below sizes
@@ -58,7 +64,7 @@ renews =
       planned = planned;
       written = λ r i h k. refl;
       beyond = λ j lo hi. refl;
-      others = λ p j cell apart. other p cell.page apart;
+      others = λ p j cell apart. absurd (only_page p cell.page apart);
       worn = refl;
       unworn = λ p h apart. absurd (only_page p h apart);
       counted = refl;
@@ -67,29 +73,26 @@ renews =
     only_page : (p : ℕ) → p < 1 → (p ≡ 0 → ⊥) → ⊥
     only_page p h apart = apart (omega arith)
 
-    other : (p : ℕ) → p < 1 → (p ≡ 0 → ⊥) → false ≡ true
-    other p h apart = absurd (only_page p h apart)
-
     planned : (r : ℕ) → r < 1 → Plan c every (renewed_value c written_once.cells 0 0 (0 * 1 + r)) (labelled [])
     planned zero h = plan_by c every 0 (labelled []) refl
     planned (suc r) h = absurd (omega arith)
 
 -- what is in reach, and what is not
-full_empty : Unreachable c (open_cells false 0) 2
+full_empty : Unreachable c (open_cells [] 0) 2
 unfolding sum_below size_below
-full_empty = none_reaches c (open_cells false 0) 2 refl
+full_empty = none_reaches c (open_cells [] 0) 2 refl
 
-full_set : (w : ℕ) → Unreachable c (open_cells true w) 2
+full_set : (w : ℕ) → Unreachable c (open_cells (1 ∷ []) w) 2
 unfolding sum_below size_below
-full_set w = none_reaches c (open_cells true w) 2 refl
+full_set w = none_reaches c (open_cells (1 ∷ []) w) 2 refl
 
-plan_one : (w : ℕ) → Plan c (open_cells false w) 1 (labelled (1 ∷ []))
+plan_one : (w : ℕ) → Plan c (open_cells [] w) 1 (labelled (1 ∷ []))
 unfolding sum_below size_below
-plan_one w = plan_by c (open_cells false w) 1 (labelled (1 ∷ [])) refl
+plan_one w = plan_by c (open_cells [] w) 1 (labelled (1 ∷ [])) refl
 
-plan_none : Plan c (open_cells true 0) 0 (labelled [])
+plan_none : Plan c (open_cells (1 ∷ []) 0) 0 (labelled [])
 unfolding sum_below size_below
-plan_none = plan_by c (open_cells true 0) 0 (labelled []) refl
+plan_none = plan_by c (open_cells (1 ∷ []) 0) 0 (labelled []) refl
 
 far : Unreachable c every 2
 unfolding sum_below size_below

@@ -6,7 +6,7 @@ use Rattle.group.specs.Vectors.{vectors}
 use Rattle.cells.specs.Sets.{size_below}
 use Rattle.coset.specs.Code.{code, every, sum_below}
 use Rattle.calls.specs.Records.{free}
-use Rattle.calls.specs.Examples.{labelled, one_record, step_to, Shows, plans, full, accepted, Worked}
+use Rattle.calls.specs.Examples.{labelled, one_record, step_to, ExampleHolds, plans, full, accepted, Worked}
 use Rattle.calls.proofs.Subsets.{full_test, none_reaches, plan_test, plan_by, list_test, listed_by}
 
 -- the plans of an example, one or two of them, each by a test that antt computes
@@ -17,13 +17,13 @@ module _ (g : Group) (n : ℕ) (ls : List ℕ) (x : ℕ) where
   abbrev lists : List ℕ → List (List ℕ) → Type 0
   lists p ps = list_test (code g n) (free (code g n) (one_record n ls) 0) (step_to g n ls x) (labelled p) ps ≡ true
 
-  one_plan : (p : List ℕ) → tests p → lists p (p ∷ []) → Shows (plans g n ls x (p ∷ []))
+  one_plan : (p : List ℕ) → tests p → lists p (p ∷ []) → ExampleHolds (plans g n ls x (p ∷ []))
   one_plan p a all =
       let c = code g n in
       let o = free (code g n) (one_record n ls) 0 in
       ((plan_by c o (step_to g n ls x) (labelled p) a, tt), listed_by c o (step_to g n ls x) (labelled p) (p ∷ []) a all)
 
-  two_plans : (p q : List ℕ) → tests p → tests q → lists p (p ∷ (q ∷ [])) → Shows (plans g n ls x (p ∷ (q ∷ [])))
+  two_plans : (p q : List ℕ) → tests p → tests q → lists p (p ∷ (q ∷ [])) → ExampleHolds (plans g n ls x (p ∷ (q ∷ [])))
   two_plans p q a b all =
       let c = code g n in
       let o = free (code g n) (one_record n ls) 0 in (
@@ -31,10 +31,10 @@ module _ (g : Group) (n : ℕ) (ls : List ℕ) (x : ℕ) where
         listed_by c o (step_to g n ls x) (labelled p) (p ∷ (q ∷ [])) a all,
       )
 
-  no_plan : full_test (code g n) (free (code g n) (one_record n ls) 0) (step_to g n ls x) ≡ true → Shows (full g n ls x)
+  no_plan : full_test (code g n) (free (code g n) (one_record n ls) 0) (step_to g n ls x) ≡ true → ExampleHolds (full g n ls x)
   no_plan e = none_reaches (code g n) (free (code g n) (one_record n ls) 0) (step_to g n ls x) e
 
-fits_64 : Shows (accepted (integers 64) 64 63)
+fits_64 : ExampleHolds (accepted (integers 64) 64 63)
 fits_64 = (λ e. omega arith, (no_row, (λ h. omega arith, tt)))
   where
     no_row : ((◌≡◌ {A = ℕ} 63 0) ⊎ (63 < 63)) → ⊥

@@ -1,5 +1,5 @@
--- What else is sure of a page with the figure h, where a record has cells enough: when the page can be full, and when it
--- can be worn out. Assumes nothing.
+-- What else is sure of a page with the figure h, where a record has cells enough: when the page can be full, and when
+-- it can be worn out. Assumes nothing.
 use Rattle.std.specs.Prelude.{◌≡◌, ℕ, ◌+◌, ◌-◌, ◌*◌, ◌<◌, ◌≤◌, true, false, List, ◌∷◌, ◌++◌}
 use Rattle.group.specs.Group.{figure}
 use Rattle.cells.specs.Cells.{Cells}
@@ -10,7 +10,8 @@ use Rattle.calls.specs.History.{Event, RefusedFull, RefusedWorn, renewed, on_pag
 abbrev pub Unset : Cells → ℕ → Type 0
 Unset m p = (i : ℕ) → i < m.width → m.set p i ≡ false
 
--- A history that began with the cells `first`, for each of their pages p. The counts are of the events that are named.
+-- A history that began with the cells `first`, for each of their pages p. The counts are of the events `earlier`, or of
+-- those `between` an accepted renewal and a later event.
 pub record DataSheet (c : Code) (first : Cells) (history : List Event) : Type 0 where
   -- Changes per erase, after any of the events: h × (renewals) ≤ (changes) + h. The + h is for cells that were set at
   -- first. It is not needed for a page that had none set, nor in counting from an accepted renewal of the page.
@@ -24,8 +25,8 @@ pub record DataSheet (c : Code) (first : Cells) (history : List Event) : Type 0 
       (p : ℕ) → p < first.pages → (earlier : List Event) (r : Event) (between later : List Event) →
       history ≡ earlier ++ (r ∷ (between ++ later)) → renewed r ≡ true → on_page c p r ≡ true →
       figure c.group * renewals c p between ≤ changes c p between
-  -- When a put is refused as full, its page has taken h changes more than for its renewals, or the cells that were set at
-  -- first stand for them. Counting from an accepted renewal of the page, it has taken them, whatever they were.
+  -- When a put is refused as full: h × (renewals + 1) ≤ (changes) + h. Here too the + h is not needed for a page that
+  -- had no cell set at first, nor in counting from an accepted renewal of the page.
   pub full :
       (p : ℕ) → p < first.pages → (earlier : List Event) (e : Event) (later : List Event) → history ≡ earlier ++ (e ∷ later) →
       RefusedFull e.answer → on_page c p e ≡ true →

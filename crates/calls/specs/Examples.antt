@@ -29,7 +29,7 @@ abbrev pub Listed : Code → Cellset → List (List ℕ) → Type 0
 Listed c s [] = ⊥
 Listed c s (ls ∷ more) = ((i : ℕ) → i < c.cells → s i ≡ labelled ls i) ⊎ Listed c s more
 
--- Each kind of example: a record of n cells over the group g, with the cells of some labels set …
+-- The kinds of examples. Of a record of n cells over the group g, with the cells of some labels set, it …
 pub data Example : Type 0 where
   -- … holds this value
   holds : Group → ℕ → List ℕ → ℕ → Example
@@ -52,7 +52,7 @@ pub data Example : Type 0 where
   refused : Group → ℕ → ℕ → ℕ → Example
   -- with n cells to a record, an array of so many pages and cells to a page has this many records, and record k lies in
   -- this page, from this cell on
-  lies : Group → ℕ → ℕ → ℕ → ℕ → ℕ → ℕ → ℕ → Example
+  placed_at : Group → ℕ → ℕ → ℕ → ℕ → ℕ → ℕ → ℕ → Example
 
 -- what a plan of such a record is a plan for
 abbrev pub step_to : Group → ℕ → List ℕ → ℕ → ℕ
@@ -62,26 +62,26 @@ abbrev pub Planned : Group → ℕ → List ℕ → ℕ → List (List ℕ) → 
 Planned g n ls x [] = Unit {0}
 Planned g n ls x (p ∷ ps) = Plan (code g n) (free (code g n) (one_record n ls) 0) (step_to g n ls x) (labelled p) × Planned g n ls x ps
 
-abbrev pub Shows : Example → Type 0
-Shows (holds g n ls x) = value (code g n) (one_record n ls) 0 ≡ x
-Shows (steps g n ls x d) = step_to g n ls x ≡ d
-Shows (plans g n ls x ps) =
+abbrev pub ExampleHolds : Example → Type 0
+ExampleHolds (holds g n ls x) = value (code g n) (one_record n ls) 0 ≡ x
+ExampleHolds (steps g n ls x d) = step_to g n ls x ≡ d
+ExampleHolds (plans g n ls x ps) =
     Planned g n ls x ps
     × ((s : Cellset) → Plan (code g n) (free (code g n) (one_record n ls) 0) (step_to g n ls x) s → Listed (code g n) s ps)
-Shows (full g n ls x) = Unreachable (code g n) (free (code g n) (one_record n ls) 0) (step_to g n ls x)
-Shows (unreached g n x) = Unreachable (code g n) every x
-Shows (sums g a b x) = g.sum a b ≡ x
-Shows (figures g e h) = (most_halves g (g.order - 1) ≡ e) × (figure g ≡ h)
-Shows (rates a w r) = rate a w ≡ r
-Shows (accepted g w n) = Served (making_rows g (one_record w []) n)
-Shows (refused g w n k) = Refused (making_rows g (one_record w []) n) k
-Shows (lies g n pages width k count page first) =
+ExampleHolds (full g n ls x) = Unreachable (code g n) (free (code g n) (one_record n ls) 0) (step_to g n ls x)
+ExampleHolds (unreached g n x) = Unreachable (code g n) every x
+ExampleHolds (sums g a b x) = g.sum a b ≡ x
+ExampleHolds (figures g e h) = (most_halves g (g.order - 1) ≡ e) × (figure g ≡ h)
+ExampleHolds (rates a w r) = rate a w ≡ r
+ExampleHolds (accepted g w n) = Served (making_rows g (array_of 1 w) n)
+ExampleHolds (refused g w n k) = Refused (making_rows g (array_of 1 w) n) k
+ExampleHolds (placed_at g n pages width k count page first) =
     (records (code g n) (array_of pages width) ≡ count) × (page_of (code g n) (array_of pages width) k ≡ page)
     × (first_of (code g n) (array_of pages width) k ≡ first)
 
-abbrev pub AllShow : List Example → Type 0
-AllShow [] = Unit {0}
-AllShow (e ∷ es) = Shows e × AllShow es
+abbrev pub AllHold : List Example → Type 0
+AllHold [] = Unit {0}
+AllHold (e ∷ es) = ExampleHolds e × AllHold es
 
 abbrev pub worked : List Example
 worked =
@@ -106,10 +106,10 @@ worked =
     (accepted (integers 64) 64 63 ∷
     (refused (integers 65) 64 63 30 ∷
     (refused (integers 64) 64 64 31 ∷
-    (lies (integers 7) 6 2 64 13 20 1 18 ∷
-    (lies (integers 2) 1 64 1024 4095 4096 63 63 ∷
-    (lies (integers 65) 6 2 64 0 0 0 0 ∷ [])))))))))))))))))))))))
+    (placed_at (integers 7) 6 2 64 13 20 1 18 ∷
+    (placed_at (integers 2) 1 64 1024 4095 4096 63 63 ∷
+    (placed_at (integers 65) 6 2 64 0 0 0 0 ∷ [])))))))))))))))))))))))
 
 -- The examples hold.
 abbrev pub Worked : Type 0
-Worked = AllShow worked
+Worked = AllHold worked

@@ -4,7 +4,7 @@ pub mod Ledger
 pub mod Calls
 pub mod History
 pub mod DataSheet
-pub mod Runs
+pub mod Accesses
 pub mod Promise
 pub mod Examples
 pub mod Sample

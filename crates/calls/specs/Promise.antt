@@ -12,9 +12,9 @@ use Rattle.calls.specs.Ledger.{ceiling, raised, blank}
 use Rattle.calls.specs.History.{Event, Linked, LinkedCells, Every, total, count, RefusedFull, renewed, changed, on_page, renewals, changes, marks, last_accepted}
 use Rattle.calls.specs.DataSheet.{DataSheet}
 
--- n cells to a record are enough for the figure: at least as many as there are nonzero elements
-abbrev pub Enough : Group → ℕ → Type 0
-Enough g n = g.order ≤ n + 1
+-- n cells are at least as many as the elements other than 0, so that each of these is the label of a cell
+abbrev pub EveryNonzeroLabelled : Group → ℕ → Type 0
+EveryNonzeroLabelled g n = g.order ≤ n + 1
 
 -- Full exactly when nothing fits: a put of a record and a value that there are answers full if, and only if, the cells
 -- that are unset before it have no subset that sums to the step.
@@ -44,8 +44,8 @@ Gets (Get k) (Err f) x = Unit {0}
 Gets (Put k y) a x = Unit {0}
 Gets (Renew k y) a x = Unit {0}
 
--- A store over the group g, with n cells to a record, was in the state `first`; these calls had these answers, and left it
--- in the state `last`. Then there is a history of them, of which all of this holds.
+-- A store over the group g, with n cells to a record, was in the state `first`; these calls had these answers, and left
+-- it in the state `last`. Then there is a history of them, of which all of this holds.
 pub record Promise (g : Group) (n : ℕ) (first : State) (calls : List Call) (answers : List Answer) (last : State) : Type 0 where
   pub history : List Event
   -- it has these calls, with these answers, in order, and leads from the one state to the other
@@ -58,16 +58,16 @@ pub record Promise (g : Group) (n : ℕ) (first : State) (calls : List Call) (an
   pub fewest : Every (λ e. Fewest (code g n) e.call e.answer e.before.cells e.after.cells) history
   -- changes per erase, for each page, however many records share it
   pub changes_per_erase :
-      Enough g n → (p : ℕ) → p < first.cells.pages →
+      EveryNonzeroLabelled g n → (p : ℕ) → p < first.cells.pages →
       figure g * renewals (code g n) p history ≤ changes (code g n) p history + figure g
   -- when a put of the page can be full, and when the page can be worn out
-  pub data_sheet : Enough g n → DataSheet (code g n) first.cells history
+  pub data_sheet : EveryNonzeroLabelled g n → DataSheet (code g n) first.cells history
   -- the wear of a page has grown by its accepted renewals
   pub erases :
       (p : ℕ) → p < first.cells.pages → last.cells.wear p ≡ first.cells.wear p + renewals (code g n) p history
   -- a set cell is unset only by an accepted renewal of its page
   pub lasts : Every (Lasts (code g n)) history
-  -- a get answers the value last accepted for its record, or the one that the record had at first
+  -- an accepted get answers the value last accepted for its record, or the one that the record had at first
   pub gets :
       (earlier : List Event) (e : Event) (later : List Event) → history ≡ earlier ++ (e ∷ later) →
       Gets e.call e.answer (λ k. last_accepted k earlier (value (code g n) first.cells k))
@@ -86,15 +86,16 @@ pub record WithinCeiling (l : Ledger) : Type 0 where
   pub renewals : l.renewals ≤ ceiling
   pub marked : l.marked ≤ ceiling
 
--- The theorem: a history that obeys the rules at each of its calls keeps the whole promise.
+-- The theorem: over a lawful group, from a ledger within the ceiling, a linked history that obeys the rules at each of
+-- its calls keeps the whole promise.
 abbrev pub RulesSuffice : Type 0
 RulesSuffice =
     (g : Group) → Lawful g → (n : ℕ) (first : State) (history : List Event) (last : State) → WithinCeiling first.ledger →
     Linked first history last → Every (λ e. Obeys (code g n) e.call e.answer e.before e.after) history →
     Promise g n first (map (λ (e : Event). e.call) history) (map (λ (e : Event). e.answer) history) last
 
--- The same of calls that were made singly, each on a store of its own with a ledger of its own, over the same cells: they
--- keep the promise together, with what one ledger would have counted.
+-- The same of calls that were made singly, each on a store of its own with a ledger of its own, over the same cells:
+-- they keep the promise together, with what one ledger would have counted.
 abbrev pub SingleCallsSuffice : Type 0
 SingleCallsSuffice =
     (g : Group) → Lawful g → (n : ℕ) (first : Cells) (made : List Event) (last : Cells) → LinkedCells first made last →

@@ -17,8 +17,8 @@ pub fn single_calls_suffice()
     ensures { SingleCallsSuffice }
 {}
 
-// The rules can be obeyed: there are lawful groups of every order, a history with every kind of call and refusal, and
-// the life of a page with the figure 1, up to a renewal that is refused as worn out.
+// The rules can be obeyed: there are lawful groups of every order from 2 to 64, a history with every kind of call and
+// refusal, and the life of a page with the figure 1, up to a renewal that is refused as worn out.
 pub fn rules_can_be_met()
     ensures lawful { IntegersLawful }
     ensures sample { SampleObeys }

@@ -41,14 +41,14 @@ pub record Erased (p : ℕ) (before after : Cells) : Type 0 where
   pub unworn : (q : ℕ) → q < before.pages → (q ≢ p) → after.wear q ≡ before.wear q
 
 -- The check that there is a page p.
-abbrev pub FindsPage : Cells → ℕ → {A : Type 0} → Result A DeviceFault → Type 0
-FindsPage m p (Ok u) = Served (page_rows m p)
-FindsPage m p (Err f) = Refused (page_rows m p) (device_number f) × Names f p None
+abbrev pub ChecksPage : Cells → ℕ → {A : Type 0} → Result A DeviceFault → Type 0
+ChecksPage m p (Ok u) = Served (page_rows m p)
+ChecksPage m p (Err f) = Refused (page_rows m p) (device_number f) × Names f p None
 
 -- The check that it has a cell i.
-abbrev pub FindsCell : Cells → ℕ → ℕ → {A : Type 0} → Result A DeviceFault → Type 0
-FindsCell m p i (Ok u) = Served (cell_rows m p i)
-FindsCell m p i (Err f) = Refused (cell_rows m p i) (device_number f) × Names f p (Some i)
+abbrev pub ChecksCell : Cells → ℕ → ℕ → {A : Type 0} → Result A DeviceFault → Type 0
+ChecksCell m p i (Ok u) = Served (cell_rows m p i)
+ChecksCell m p i (Err f) = Refused (cell_rows m p i) (device_number f) × Names f p (Some i)
 
 -- A look answers whether the cell is set.
 abbrev pub Looks : Cells → ℕ → ℕ → Result Bool DeviceFault → Type 0
@@ -66,9 +66,9 @@ Wears m p (Ok w) = Served (page_rows m p) × (w.0 ≡ m.wear p) × (w.1 ≡ m.li
 Wears m p (Err f) = Refused (page_rows m p) (device_number f) × Names f p None
 
 -- The check that the page p can be erased once more answers its wear.
-abbrev pub FindsErase : Cells → ℕ → Result ℕ DeviceFault → Type 0
-FindsErase m p (Ok w) = Served (erase_rows m p) × (w ≡ m.wear p)
-FindsErase m p (Err f) = Refused (erase_rows m p) (device_number f) × Names f p None
+abbrev pub ChecksErase : Cells → ℕ → Result ℕ DeviceFault → Type 0
+ChecksErase m p (Ok w) = Served (erase_rows m p) × (w ≡ m.wear p)
+ChecksErase m p (Err f) = Refused (erase_rows m p) (device_number f) × Names f p None
 
 -- An erase unsets the page.
 abbrev pub Erases : ℕ → Cells → Cells → {A : Type 0} → Result A DeviceFault → Type 0

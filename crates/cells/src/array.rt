@@ -3,7 +3,7 @@
 ghost use Rattle.std.specs.Prelude.{◌≡◌, List};
 ghost use Rattle.std.specs.Borrow.{GName};
 ghost use Rattle.cells.specs.Cells.{Cells, Bounded, is_set};
-ghost use Rattle.cells.specs.Device.{FindsPage, FindsCell, FindsErase, Kept, Looks, Marks, Wears, Erases};
+ghost use Rattle.cells.specs.Device.{ChecksPage, ChecksCell, ChecksErase, Kept, Looks, Marks, Wears, Erases};
 
 use crate::fault::DeviceFault;
 
@@ -31,7 +31,7 @@ pub trait CellArray {
 
     // That there is such a page, or the fault of every call that names it.
     fn check_page(&self, page: usize) -> Result<(), DeviceFault>
-        ensures { FindsPage (cells self.now) page result }
+        ensures { ChecksPage (cells self.now) page result }
     {
         if page >= self.pages() {
             return Err(DeviceFault::NoPage { page, cell: None });
@@ -41,7 +41,7 @@ pub trait CellArray {
 
     // That there is such a cell, or the fault of every call that names it.
     fn check_cell(&self, page: usize, cell: usize) -> Result<(), DeviceFault>
-        ensures { FindsCell (cells self.now) page cell result }
+        ensures { ChecksCell (cells self.now) page cell result }
     {
         if page >= self.pages() {
             return Err(DeviceFault::NoPage {
@@ -78,7 +78,7 @@ pub trait Erasable: CellArray {
 
     // That a page can be erased once more, with its wear so far, or the fault of an erase.
     fn check_erase(&self, page: usize) -> Result<u32, DeviceFault>
-        ensures { FindsErase (Self.CellArray.cells self.now) page result }
+        ensures { ChecksErase (Self.CellArray.cells self.now) page result }
     {
         let (worn, limit) = self.wear(page)?;
         if worn >= limit {

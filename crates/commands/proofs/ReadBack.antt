@@ -9,11 +9,11 @@ use Rattle.commands.specs.declared.factor.Factor.TheVariants.{Integers, Vectors}
 use Rattle.commands.specs.declared.group_word.GroupWord.{GroupWord}
 use Rattle.commands.specs.declared.group_word.GroupWord.TheVariants.{One, Two}
 use Rattle.commands.specs.declared.command.Command.TheVariants.{Put, Renew, Save, Get, Ledger}
-use Rattle.commands.specs.Spots.{Passed}
+use Rattle.commands.specs.PlacedRows.{NotRefused}
 use Rattle.commands.specs.Words.{placed}
-use Rattle.commands.specs.Groups.{factor_spelt, group_spelt, SmallFactor, SmallGroup}
-use Rattle.commands.specs.Orders.{command_words, head_words, form_spots, number_spot, head_word_spots, line_spots, OrdersPass, HeadingsPass}
-use Rattle.commands.proofs.Tables.{passed_both}
+use Rattle.commands.specs.Groups.{factor_spelt, group_spelt, NineDigitFactor, NineDigitGroup}
+use Rattle.commands.specs.Orders.{command_word_count, head_word_count, form_rows, number_row, head_word_rows, line_rows, OrdersPass, HeadingsPass}
+use Rattle.commands.proofs.Tables.{accepted_both}
 
 few_digits : (n : ℕ) → n < 1000000000 → length (decimal n) ≤ 9
 few_digits n h = length-decimal-le 9 n (omega arith) h (omega arith)
@@ -24,7 +24,7 @@ no_space n h = decimal_lacks 32 n (omega arith) (λ d. omega arith)
 -- a line of a command that takes as many words as it has
 form_passes :
     (takes : ℕ → Option ℕ) (b : ℕ) (xs : List ℕ) (k : ℕ) → length xs ≤ 78 → takes b ≡ Some k → length (placed 3 (cut 32 xs)) ≡ k →
-    Passed (form_spots takes (b ∷ (32 ∷ xs)))
+    NotRefused (form_rows takes (b ∷ (32 ∷ xs)))
 form_passes takes b xs k short knows counts = (
   (λ long. omega arith),
   ((λ foreign. go foreign), ((λ miscounted. miscounted (knows ∙ ap Some (sym counts))), tt)),
@@ -35,16 +35,16 @@ form_passes takes b xs k short knows counts = (
     go (inr unspaced) = unspaced refl
 
 -- one number after a letter, or two
-one_passes : (b k : ℕ) → command_words b ≡ Some 1 → k < 1000000000 → Passed (line_spots (b ∷ (32 ∷ decimal k)))
+one_passes : (b k : ℕ) → command_word_count b ≡ Some 1 → k < 1000000000 → NotRefused (line_rows (b ∷ (32 ∷ decimal k)))
 unfolding placed
 one_passes b k knows small =
     let one = cut_alone 32 (decimal k) (no_space k small) in
     let few = few_digits k small in
-    passed_both (form_spots command_words (b ∷ (32 ∷ decimal k))) (map number_spot (placed 3 (cut 32 (decimal k))))
-    (form_passes command_words b (decimal k) 1 (omega arith) knows (ap (λ ps. length (placed 3 ps)) one))
-    (subst (λ ps. Passed (map number_spot (placed 3 ps))) (sym one) ((λ none. none k (small, refl)), tt))
+    accepted_both (form_rows command_word_count (b ∷ (32 ∷ decimal k))) (map number_row (placed 3 (cut 32 (decimal k))))
+    (form_passes command_word_count b (decimal k) 1 (omega arith) knows (ap (λ ps. length (placed 3 ps)) one))
+    (subst (λ ps. NotRefused (map number_row (placed 3 ps))) (sym one) ((λ none. none k (small, refl)), tt))
 
-two_pass : (b k x : ℕ) → command_words b ≡ Some 2 → k < 1000000000 → x < 1000000000 → Passed (line_spots (b ∷ (32 ∷ (decimal k ++ (32 ∷ decimal x)))))
+two_pass : (b k x : ℕ) → command_word_count b ≡ Some 2 → k < 1000000000 → x < 1000000000 → NotRefused (line_rows (b ∷ (32 ∷ (decimal k ++ (32 ∷ decimal x)))))
 unfolding placed
 two_pass b k x knows small small' =
     let xs = decimal k ++ (32 ∷ decimal x) in
@@ -53,9 +53,9 @@ two_pass b k x knows small small' =
     let few = few_digits k small in
     let few' = few_digits x small' in
     let long = length-append (decimal k) (32 ∷ decimal x) in
-    passed_both (form_spots command_words (b ∷ (32 ∷ xs))) (map number_spot (placed 3 (cut 32 xs)))
-    (form_passes command_words b xs 2 (omega arith) knows (ap (λ ps. length (placed 3 ps)) two))
-    (subst (λ ps. Passed (map number_spot (placed 3 ps))) (sym two) ((λ none. none k (small, refl)), ((λ none. none x (small', refl)), tt)))
+    accepted_both (form_rows command_word_count (b ∷ (32 ∷ xs))) (map number_row (placed 3 (cut 32 xs)))
+    (form_passes command_word_count b xs 2 (omega arith) knows (ap (λ ps. length (placed 3 ps)) two))
+    (subst (λ ps. NotRefused (map number_row (placed 3 ps))) (sym two) ((λ none. none k (small, refl)), ((λ none. none x (small', refl)), tt)))
 
 pub orders_pass : OrdersPass
 orders_pass (Put k x) small = two_pass 80 k.value x.value refl small.0 small.1
@@ -64,18 +64,18 @@ orders_pass (Save k x) small = two_pass 83 k.value x.value refl small.0 small.1
 orders_pass (Get k) small = one_passes 71 k.value refl small
 orders_pass Ledger small = ((λ long. omega arith), (go, ((λ miscounted. miscounted refl), tt)))
   where
-    go : ((command_words 76 ≡ None) ⊎ ⊥) → ⊥
+    go : ((command_word_count 76 ≡ None) ⊎ ⊥) → ⊥
     go (inl none) = let z : ◌≡◌ {A = ℕ} 0 1 = cc in omega arith
     go (inr never) = never
 
 -- a group word has no space, and is short
-factor_clean : (f : Factor) → SmallFactor f → Lacks 32 (factor_spelt f) × (length (factor_spelt f) ≤ 10)
+factor_clean : (f : Factor) → NineDigitFactor f → Lacks 32 (factor_spelt f) × (length (factor_spelt f) ≤ 10)
 factor_clean (Integers g) small =
     let few = few_digits g.modulus small in (lacks_more 32 90 (decimal g.modulus) (λ e. omega arith) (no_space g.modulus small), omega arith)
 factor_clean (Vectors g) small =
     let few = few_digits g.bits small in (lacks_more 32 88 (decimal g.bits) (λ e. omega arith) (no_space g.bits small), omega arith)
 
-group_clean : (g : GroupWord) → SmallGroup g → Lacks 32 (group_spelt g) × (length (group_spelt g) ≤ 21)
+group_clean : (g : GroupWord) → NineDigitGroup g → Lacks 32 (group_spelt g) × (length (group_spelt g) ≤ 21)
 group_clean (One f) small = let one = factor_clean f small in (one.0, (let few = one.1 in omega arith))
 group_clean (Two p) small =
     let f = p.left in
@@ -108,9 +108,9 @@ headings_pass h small =
     let l₁ = length-append g (32 ∷ (n ++ (32 ∷ (p ++ (32 ∷ c))))) in
     let l₂ = length-append n (32 ∷ (p ++ (32 ∷ c))) in
     let l₃ = length-append p (32 ∷ c) in
-    passed_both (form_spots head_words (72 ∷ (32 ∷ xs))) (head_word_spots (placed 3 (cut 32 xs)))
-    (form_passes head_words 72 xs 4 (omega arith) refl (ap (λ ps. length (placed 3 ps)) words))
-    (subst (λ ps. Passed (head_word_spots (placed 3 ps))) (sym words) (
+    accepted_both (form_rows head_word_count (72 ∷ (32 ∷ xs))) (head_word_rows (placed 3 (cut 32 xs)))
+    (form_passes head_word_count 72 xs 4 (omega arith) refl (ap (λ ps. length (placed 3 ps)) words))
+    (subst (λ ps. NotRefused (head_word_rows (placed 3 ps))) (sym words) (
       (λ none. none h.group (small.group, refl)),
       ((λ none. none h.n.value (small.n, refl)), ((λ none. none h.pages.value (small.pages, refl)), ((λ none. none h.width.value (small.width, refl)), tt))),
     ))

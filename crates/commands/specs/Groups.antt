@@ -28,20 +28,20 @@ group_spelt (One f) = factor_spelt f
 group_spelt (Two p) = factor_spelt p.left ++ (46 ∷ factor_spelt p.right)
 
 -- parameters have at most nine digits
-abbrev pub SmallFactor : Factor → Type 0
-SmallFactor (Integers g) = g.modulus < 1000000000
-SmallFactor (Vectors g) = g.bits < 1000000000
+abbrev pub NineDigitFactor : Factor → Type 0
+NineDigitFactor (Integers g) = g.modulus < 1000000000
+NineDigitFactor (Vectors g) = g.bits < 1000000000
 
-abbrev pub SmallGroup : GroupWord → Type 0
-SmallGroup (One f) = SmallFactor f
-SmallGroup (Two p) = SmallFactor p.left × SmallFactor p.right
+abbrev pub NineDigitGroup : GroupWord → Type 0
+NineDigitGroup (One f) = NineDigitFactor f
+NineDigitGroup (Two p) = NineDigitFactor p.left × NineDigitFactor p.right
 
 -- the bytes w spell a factor, or a group
 abbrev pub SpellsFactor : List ℕ → Factor → Type 0
-SpellsFactor w f = SmallFactor f × (w ≡ factor_spelt f)
+SpellsFactor w f = NineDigitFactor f × (w ≡ factor_spelt f)
 
 abbrev pub SpellsGroup : List ℕ → GroupWord → Type 0
-SpellsGroup w g = SmallGroup g × (w ≡ group_spelt g)
+SpellsGroup w g = NineDigitGroup g × (w ≡ group_spelt g)
 
 -- the one that they spell, or none where they spell none
 abbrev pub ReadsFactor : List ℕ → Option Factor → Type 0

@@ -1,4 +1,4 @@
-pub mod Spots
+pub mod PlacedRows
 pub mod Words
 pub mod Faults
 pub mod Groups

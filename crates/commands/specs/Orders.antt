@@ -7,12 +7,12 @@ use Rattle.commands.specs.declared.command.Command.{Command}
 use Rattle.commands.specs.declared.command.Command.TheVariants.{Put, Renew, Save, Get, Ledger}
 use Rattle.commands.specs.declared.word.Number.{Number}
 use Rattle.commands.specs.declared.head.Head.{Head}
-use Rattle.commands.specs.Spots.{Spot, spot, Stopped, Passed}
+use Rattle.commands.specs.PlacedRows.{PlacedRow, placed_row, RefusedAt, NotRefused}
 use Rattle.commands.specs.declared.opening.Opening.{Opening}
 use Rattle.commands.specs.declared.word.Word.{Word}
 use Rattle.commands.specs.Words.{Unspaced, line_words, word_of, head_words_of, words_left}
 use Rattle.commands.specs.Faults.{line_number}
-use Rattle.commands.specs.Groups.{SmallGroup, SpellsGroup, group_spelt}
+use Rattle.commands.specs.Groups.{NineDigitGroup, SpellsGroup, group_spelt}
 
 -- An order written out as a line: its letter, and each of its numbers in decimal after a space.
 abbrev pub written : Command Number → List ℕ
@@ -44,72 +44,72 @@ pub record HeadingColumns (h : Head GroupWord Number) : Type 0 where
   pub width : h.width.column ≡ h.pages.column + length (decimal h.pages.value) + 1
 
 -- the line orders o, or is the heading h
-abbrev pub Orders : List ℕ → Command Number → Type 0
-Orders l o = (l ≡ written o) × Columns o
+abbrev pub IsOrder : List ℕ → Command Number → Type 0
+IsOrder l o = (l ≡ written o) × Columns o
 
-abbrev pub Headings : List ℕ → Head GroupWord Number → Type 0
-Headings l h = (l ≡ heading_written h) × HeadingColumns h
+abbrev pub IsHeading : List ℕ → Head GroupWord Number → Type 0
+IsHeading l h = (l ≡ heading_written h) × HeadingColumns h
 
 -- numbers of at most nine digits
-abbrev pub Small : Command Number → Type 0
-Small (Put k x) = (k.value < 1000000000) × (x.value < 1000000000)
-Small (Renew k x) = (k.value < 1000000000) × (x.value < 1000000000)
-Small (Save k x) = (k.value < 1000000000) × (x.value < 1000000000)
-Small (Get k) = k.value < 1000000000
-Small Ledger = Unit {0}
+abbrev pub NineDigitOrder : Command Number → Type 0
+NineDigitOrder (Put k x) = (k.value < 1000000000) × (x.value < 1000000000)
+NineDigitOrder (Renew k x) = (k.value < 1000000000) × (x.value < 1000000000)
+NineDigitOrder (Save k x) = (k.value < 1000000000) × (x.value < 1000000000)
+NineDigitOrder (Get k) = k.value < 1000000000
+NineDigitOrder Ledger = Unit {0}
 
-pub record SmallHeading (h : Head GroupWord Number) : Type 0 where
-  pub group : SmallGroup h.group
+pub record NineDigitHeading (h : Head GroupWord Number) : Type 0 where
+  pub group : NineDigitGroup h.group
   pub n : h.n.value < 1000000000
   pub pages : h.pages.value < 1000000000
   pub width : h.width.value < 1000000000
 
 -- how many words a command takes, by its letter; none where the letter is no command
-abbrev pub command_words : ℕ → Option ℕ
-command_words b =
+abbrev pub command_word_count : ℕ → Option ℕ
+command_word_count b =
     cond (b == 80 || (b == 82 || b == 83)) (Some 2) (cond (b == 71) (Some 1) (cond (b == 76) (Some 0) None))
 
 -- the same in the place of the head
-abbrev pub head_words : ℕ → Option ℕ
-head_words b = cond (b == 72) (Some 4) None
+abbrev pub head_word_count : ℕ → Option ℕ
+head_word_count b = cond (b == 72) (Some 4) None
 
--- the first byte is no command that may stand here, or the second is no space
-abbrev pub Foreign : (ℕ → Option ℕ) → List ℕ → Type 0
-Foreign takes [] = Unit {0}
-Foreign takes (b ∷ rest) = (takes b ≡ None) ⊎ Unspaced rest
+-- there is no first byte, or it is no command that may stand here, or the second byte is no space
+abbrev pub NoCommand : (ℕ → Option ℕ) → List ℕ → Type 0
+NoCommand takes [] = Unit {0}
+NoCommand takes (b ∷ rest) = (takes b ≡ None) ⊎ Unspaced rest
 
--- the command takes another number of words
+-- the first byte is no command that takes as many words as there are
 abbrev pub Miscounted : (ℕ → Option ℕ) → List ℕ → Type 0
 Miscounted takes [] = ⊥
 Miscounted takes (b ∷ rest) = takes b ≡ Some (length (line_words (b ∷ rest))) → ⊥
 
 -- The checks of a line's form, in their order.
-abbrev pub form_spots : (ℕ → Option ℕ) → List ℕ → List Spot
-form_spots takes l =
-    spot 53 81 (80 < length l) ∷ (spot 50 1 (Foreign takes l) ∷ (spot 52 (length l + 1) (Miscounted takes l) ∷ []))
+abbrev pub form_rows : (ℕ → Option ℕ) → List ℕ → List PlacedRow
+form_rows takes l =
+    placed_row 53 81 (80 < length l) ∷ (placed_row 50 1 (NoCommand takes l) ∷ (placed_row 52 (length l + 1) (Miscounted takes l) ∷ []))
 
 -- these are not k words; the refusal names the column past the line
-abbrev pub count_spot : List (List ℕ × ℕ) → ℕ → ℕ → Spot
-count_spot ws k past = spot 52 past (length ws ≢ k)
+abbrev pub count_row : List (List ℕ × ℕ) → ℕ → ℕ → PlacedRow
+count_row ws k past = placed_row 52 past (length ws ≢ k)
 
 -- a word that is to be a number, or a group, and is none
-abbrev pub number_spot : List ℕ × ℕ → Spot
-number_spot w = spot 51 w.1 ((n : ℕ) → Spells w.0 n → ⊥)
+abbrev pub number_row : List ℕ × ℕ → PlacedRow
+number_row w = placed_row 51 w.1 ((n : ℕ) → Spells w.0 n → ⊥)
 
-abbrev pub group_spot : List ℕ × ℕ → Spot
-group_spot w = spot 51 w.1 ((g : GroupWord) → SpellsGroup w.0 g → ⊥)
+abbrev pub group_row : List ℕ × ℕ → PlacedRow
+group_row w = placed_row 51 w.1 ((g : GroupWord) → SpellsGroup w.0 g → ⊥)
 
 -- the words of a head: a group, and then numbers
-abbrev pub head_word_spots : List (List ℕ × ℕ) → List Spot
-head_word_spots [] = []
-head_word_spots (w ∷ ws) = group_spot w ∷ map number_spot ws
+abbrev pub head_word_rows : List (List ℕ × ℕ) → List PlacedRow
+head_word_rows [] = []
+head_word_rows (w ∷ ws) = group_row w ∷ map number_row ws
 
 -- The table of a line after the head, and that of a head.
-abbrev pub line_spots : List ℕ → List Spot
-line_spots l = form_spots command_words l ++ map number_spot (line_words l)
+abbrev pub line_rows : List ℕ → List PlacedRow
+line_rows l = form_rows command_word_count l ++ map number_row (line_words l)
 
-abbrev pub head_spots : List ℕ → List Spot
-head_spots l = form_spots head_words l ++ head_word_spots (line_words l)
+abbrev pub head_rows : List ℕ → List PlacedRow
+head_rows l = form_rows head_word_count l ++ head_word_rows (line_words l)
 
 -- the line has this letter and these words
 abbrev pub Has : List ℕ → ℕ → List (List ℕ × ℕ) → Type 0
@@ -117,39 +117,42 @@ Has [] letter ws = ⊥
 Has (b ∷ rest) letter ws = (b ≡ letter) × (line_words (b ∷ rest) ≡ ws)
 
 -- the command is the one of the line
-abbrev pub Commands : List ℕ → Command Word → Type 0
-Commands l (Put k x) = Has l 80 (word_of k ∷ (word_of x ∷ []))
-Commands l (Renew k x) = Has l 82 (word_of k ∷ (word_of x ∷ []))
-Commands l (Save k x) = Has l 83 (word_of k ∷ (word_of x ∷ []))
-Commands l (Get k) = Has l 71 (word_of k ∷ [])
-Commands l Ledger = Has l 76 []
+abbrev pub HasCommand : List ℕ → Command Word → Type 0
+HasCommand l (Put k x) = Has l 80 (word_of k ∷ (word_of x ∷ []))
+HasCommand l (Renew k x) = Has l 82 (word_of k ∷ (word_of x ∷ []))
+HasCommand l (Save k x) = Has l 83 (word_of k ∷ (word_of x ∷ []))
+HasCommand l (Get k) = Has l 71 (word_of k ∷ [])
+HasCommand l Ledger = Has l 76 []
 
-abbrev pub Heads : List ℕ → Head Word Word → Type 0
-Heads l h = Has l 72 (head_words_of h)
+abbrev pub HasHead : List ℕ → Head Word Word → Type 0
+HasHead l h = Has l 72 (head_words_of h)
 
--- a step of the reading of a line: what holds of its answer, or the first row that holds, with its column
-abbrev pub Reading : List Spot → {A : Type 0} → (A → Type 0) → Result A Refusal → Type 0
-Reading rs Q (Ok x) = Passed rs × Q x
-Reading rs Q (Err f) = Stopped rs (line_number f.fault) f.column
+-- a step of the reading of a line: its answer satisfies Q, or the first of its rows that holds refuses the line
+abbrev pub ReadsStep : List PlacedRow → {A : Type 0} → (A → Type 0) → Result A Refusal → Type 0
+ReadsStep rs Q (Ok x) = NotRefused rs × Q x
+ReadsStep rs Q (Err f) = RefusedAt rs (line_number f.fault) f.column
 
 -- a number and its column, read from a word
-abbrev pub Numbers : Word → Number → Type 0
-Numbers w n = Spells w.bytes.now n.value × (n.column ≡ w.column)
+abbrev pub ReadsNumber : Word → Number → Type 0
+ReadsNumber w n = Spells w.bytes.now n.value × (n.column ≡ w.column)
 
--- A line's first byte and its words, whatever commands may stand there; or a refusal that holds for all of them.
+-- The line begins with the letter of o and has its words. It is not too long, and where the letter is a command that
+-- may stand there, the line is not refused for it.
 pub record Begins (l : List ℕ) (o : Opening) : Type 0 where
   pub past : o.words.past ≡ length l + 1
   pub length : length l ≤ 80
   pub has : Has l o.letter (words_left o.words)
-  pub familiar : (takes : ℕ → Option ℕ) → (takes o.letter ≢ None) → Foreign takes l → ⊥
+  pub known : (takes : ℕ → Option ℕ) → (takes o.letter ≢ None) → NoCommand takes l → ⊥
 
+-- The line begins so, or is refused by the rows of its form, whichever commands may stand there.
 abbrev pub OpensLine : List ℕ → Result Opening Refusal → Type 0
 OpensLine l (Ok o) = Begins l o
-OpensLine l (Err f) = (takes : ℕ → Option ℕ) → Stopped (form_spots takes l) (line_number f.fault) f.column
+OpensLine l (Err f) = (takes : ℕ → Option ℕ) → RefusedAt (form_rows takes l) (line_number f.fault) f.column
 
--- The laws of reading: every order of such numbers, and every such heading, passes its table when it is written out.
+-- The laws of reading: every order whose numbers have at most nine digits, and every such heading, passes its table
+-- when it is written out.
 abbrev pub OrdersPass : Type 0
-OrdersPass = (o : Command Number) → Small o → Passed (line_spots (written o))
+OrdersPass = (o : Command Number) → NineDigitOrder o → NotRefused (line_rows (written o))
 
 abbrev pub HeadingsPass : Type 0
-HeadingsPass = (h : Head GroupWord Number) → SmallHeading h → Passed (head_spots (heading_written h))
+HeadingsPass = (h : Head GroupWord Number) → NineDigitHeading h → NotRefused (head_rows (heading_written h))

@@ -2,7 +2,7 @@
 -- Assumes nothing.
 use Rattle.std.specs.Prelude.{◌≡◌, ℕ, ◌+◌, List, [], ◌∷◌, length, Some, None, Option}
 use Rattle.std.specs.Iterator.{YieldsFirstBy}
-use Rattle.scan.specs.Pieces.{cut, left}
+use Rattle.scan.specs.Pieces.{cut, pieces_left}
 use Rattle.commands.specs.declared.head.Head.{Head}
 use Rattle.commands.specs.declared.word.Word.{Word}
 use Rattle.commands.specs.declared.word.Words.{Words}
@@ -37,13 +37,13 @@ head_words_of h = word_of h.group ∷ (word_of h.n ∷ (word_of h.pages ∷ (wor
 
 -- the words that are still to be taken
 abbrev pub words_left : Words → List (List ℕ × ℕ)
-words_left ws = placed (ws.pieces.at + 3) (left ws.pieces)
+words_left ws = placed (ws.pieces.at + 3) (pieces_left ws.pieces)
 
 -- the next word is taken, or none is left; the line ends where it did
 abbrev pub NextWord : Words → Option Word → Words → Type 0
 NextWord s r t = YieldsFirstBy word_of words_left s r t × (t.past ≡ s.past)
 
--- the words of what follows a command, or none where no space follows it
-abbrev pub Opens : List ℕ → Option Words → Type 0
-Opens rest (Some ws) = (Unspaced rest → ⊥) × (words_left ws ≡ words_after rest) × (ws.past ≡ length rest + 2)
-Opens rest None = Unspaced rest
+-- the words of what follows a command, or none where a byte follows it that is no space
+abbrev pub WordsAfter : List ℕ → Option Words → Type 0
+WordsAfter rest (Some ws) = (Unspaced rest → ⊥) × (words_left ws ≡ words_after rest) × (ws.past ≡ length rest + 2)
+WordsAfter rest None = Unspaced rest

@@ -1,6 +1,6 @@
 // The commands of the lines after the head, with their words or with their numbers.
 // A line's letter says which command it is and how many words it takes.
-ghost use Rattle.commands.specs.Orders.{command_words, form_spots, line_spots, Commands, Orders, Reading};
+ghost use Rattle.commands.specs.Orders.{command_word_count, form_rows, line_rows, HasCommand, IsOrder, ReadsStep};
 
 use crate::fault::{LineFault, Refusal};
 use crate::opening::Opening;
@@ -19,7 +19,7 @@ pub enum Command<T> {
 impl<'a> Command<Word<'a>> {
     // The command of a line with its words, which are parts of the script. By cases, since a letter is data.
     pub fn in_words(line: &'a [u8]) -> Result<Command<Word<'a>>, Refusal>
-        ensures { Reading (form_spots command_words line.now) (Commands line.now) result }
+        ensures { ReadsStep (form_rows command_word_count line.now) (HasCommand line.now) result }
     {
         let Opening { letter, words } = Opening::of(line)?;
         match letter {
@@ -45,7 +45,7 @@ pub type Order = Command<Number>;
 impl Command<Number> {
     // A line that is an order is that order written out, byte for byte. By cases, since each has words of its own.
     pub fn read(line: &[u8]) -> Result<Order, Refusal>
-        ensures { Reading (line_spots line.now) (Orders line.now) result }
+        ensures { ReadsStep (line_rows line.now) (IsOrder line.now) result }
     {
         Ok(match Command::in_words(line)? {
             Command::Put { record, value } => Command::Put {

@@ -2,8 +2,8 @@
 // A line's words are taken one after another, and their number is that of its command.
 ghost use Rattle.std.specs.Prelude.{◌≡◌, [], ◌∷◌};
 ghost use Rattle.std.specs.Iterator.{item_count};
-ghost use Rattle.commands.specs.Words.{word_of, head_words_of, words_left, NextWord, Opens};
-ghost use Rattle.commands.specs.Orders.{number_spot, group_spot, count_spot, Numbers, Reading};
+ghost use Rattle.commands.specs.Words.{word_of, head_words_of, words_left, NextWord, WordsAfter};
+ghost use Rattle.commands.specs.Orders.{number_row, group_row, count_row, ReadsNumber, ReadsStep};
 ghost use Rattle.commands.specs.Groups.{SpellsGroup};
 
 use crate::fault::{LineFault, Refusal};
@@ -41,7 +41,7 @@ impl Number {
 impl<'a> Word<'a> {
     // The number that the word spells, with its column.
     pub fn number(self) -> Result<Number, Refusal>
-        ensures { Reading (number_spot (word_of self.entry) ∷ []) (Numbers self.entry) result }
+        ensures { ReadsStep (number_row (word_of self.entry) ∷ []) (ReadsNumber self.entry) result }
     {
         let value = read_number(self.bytes).ok_or(LineFault::Word.at(self.column))?;
         Ok(Number {
@@ -52,7 +52,7 @@ impl<'a> Word<'a> {
 
     // The group that the word spells.
     pub fn group(self) -> Result<GroupWord, Refusal>
-        ensures { Reading (group_spot (word_of self.entry) ∷ []) (λ g. SpellsGroup self.entry.bytes.now g) result }
+        ensures { ReadsStep (group_row (word_of self.entry) ∷ []) (λ g. SpellsGroup self.entry.bytes.now g) result }
     {
         GroupWord::read(self.bytes).ok_or(LineFault::Word.at(self.column))
     }
@@ -67,9 +67,9 @@ pub(crate) struct Words<'a> {
 }
 
 impl<'a> Words<'a> {
-    // The words of what follows a command, or none where no space follows it.
+    // The words of what follows a command, or none where a byte follows it that is no space.
     pub(crate) fn after_command(rest: &'a [u8]) -> Option<Words<'a>>
-        ensures { Opens rest.now result }
+        ensures { WordsAfter rest.now result }
     {
         let past = rest.len() + 2;
         match rest {
@@ -88,7 +88,7 @@ impl<'a> Words<'a> {
     // That there is no word. Each count has a function of its own: the borrow checker does not cover an array of
     // borrowed words in a result.
     pub(crate) fn none(mut self) -> Result<(), Refusal>
-        ensures { Reading (count_spot (words_left self.entry) 0 self.entry.past ∷ []) (λ _. words_left self.entry ≡ []) result }
+        ensures { ReadsStep (count_row (words_left self.entry) 0 self.entry.past ∷ []) (λ _. words_left self.entry ≡ []) result }
     {
         if self.next().is_some() {
             return Err(LineFault::Count.at(self.past));
@@ -98,7 +98,7 @@ impl<'a> Words<'a> {
 
     // The only word.
     pub(crate) fn one(mut self) -> Result<Word<'a>, Refusal>
-        ensures { Reading (count_spot (words_left self.entry) 1 self.entry.past ∷ []) (λ w. words_left self.entry ≡ word_of w ∷ []) result }
+        ensures { ReadsStep (count_row (words_left self.entry) 1 self.entry.past ∷ []) (λ w. words_left self.entry ≡ word_of w ∷ []) result }
     {
         let word = self.next().ok_or(LineFault::Count.at(self.past))?;
         self.none()?;
@@ -107,7 +107,7 @@ impl<'a> Words<'a> {
 
     // The only two words.
     pub(crate) fn two(mut self) -> Result<(Word<'a>, Word<'a>), Refusal>
-        ensures { Reading (count_spot (words_left self.entry) 2 self.entry.past ∷ []) (λ ws. words_left self.entry ≡ word_of ws.0 ∷ (word_of ws.1 ∷ [])) result }
+        ensures { ReadsStep (count_row (words_left self.entry) 2 self.entry.past ∷ []) (λ ws. words_left self.entry ≡ word_of ws.0 ∷ (word_of ws.1 ∷ [])) result }
     {
         let first = self.next().ok_or(LineFault::Count.at(self.past))?;
         let second = self.one()?;
@@ -116,7 +116,7 @@ impl<'a> Words<'a> {
 
     // The only four words.
     pub(crate) fn four(mut self) -> Result<Head<Word<'a>, Word<'a>>, Refusal>
-        ensures { Reading (count_spot (words_left self.entry) 4 self.entry.past ∷ []) (λ h. words_left self.entry ≡ head_words_of h) result }
+        ensures { ReadsStep (count_row (words_left self.entry) 4 self.entry.past ∷ []) (λ h. words_left self.entry ≡ head_words_of h) result }
     {
         let group = self.next().ok_or(LineFault::Count.at(self.past))?;
         let n = self.next().ok_or(LineFault::Count.at(self.past))?;

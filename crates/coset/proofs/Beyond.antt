@@ -44,7 +44,7 @@ sum_never c laws never s zero = refl
 sum_never c laws never s (suc n) = go (s n) (sum_never c laws never s n)
   where
     go : (b : Bool) → sum_below c s n ≡ 0 → cond b (c.group.sum (sum_below c s n) (c.label n)) (sum_below c s n) ≡ 0
-    go true e = laws.never_sum never _ _
+    go true e = laws.unusable_sum never _ _
     go false e = e
 
 -- the empty set is a plan for 0

@@ -4,7 +4,7 @@ use Rattle.std.proofs.lemmas.Bool.{and_parts, not-true, eqb-false, cases_Bool, c
 use Rattle.group.specs.Group.{Group, Lawful, Usable, step}
 use Rattle.cells.specs.Sets.{Cellset, size_below}
 use Rattle.coset.specs.Code.{code, sum_of, size_of, Unreachable}
-use Rattle.coset.specs.Plans.{Filled, fewest_at, turn}
+use Rattle.coset.specs.Plans.{Filled, fewest_at, entry_from_next}
 use Rattle.coset.specs.declared.planner.Table.{Table}
 use Rattle.coset.proofs.Groups.{zero_in, step_only}
 use Rattle.cells.proofs.Sizes.{size_le}
@@ -12,11 +12,11 @@ use Rattle.coset.proofs.Sums.{Agree, Apart, only, either, label_in, sum_in, sum_
 use Rattle.coset.proofs.Beyond.{sum_empty}
 
 -- A cell may be left out or, where it is free, taken.
-pub turn_out : (g : Group) (label : ℕ) (free : Bool) (next : ℕ → ℕ) (s : ℕ) → turn g label free next s ≤ next s
+pub turn_out : (g : Group) (label : ℕ) (free : Bool) (next : ℕ → ℕ) (s : ℕ) → entry_from_next g label free next s ≤ next s
 turn_out g label true next s = omega arith
 turn_out g label false next s = omega arith
 
-pub turn_in : (g : Group) (label : ℕ) (free : Bool) (next : ℕ → ℕ) (s : ℕ) → free ≡ true → turn g label free next s ≤ next (step g label s) + 1
+pub turn_in : (g : Group) (label : ℕ) (free : Bool) (next : ℕ → ℕ) (s : ℕ) → free ≡ true → entry_from_next g label free next s ≤ next (step g label s) + 1
 turn_in g label true next s is_free = omega arith
 turn_in g label false next s is_free = absurd (both_ways false refl is_free)
 
@@ -86,8 +86,8 @@ module _ (g : Group) (laws : Lawful g) (usable : Usable g) (n : ℕ) where
         last = rw (here, sum_empty (code g n) t n quiet) (filled.last 0 (zero_in g laws usable))
     entry_least (suc k) i e t from = go (cases_Bool (t i)) (entry_least k (i + 1) (omega arith))
       where
-        turns : fewest_at table i (sum_of (code g n) t) ≡ turn g ((code g n).label i) (free i) (fewest_at table (i + 1)) (sum_of (code g n) t)
-        turns = filled.turns i (sum_of (code g n) t) (omega arith) (omega arith) (sum_in (code g n) laws usable (label_in g laws n) t n)
+        entries : fewest_at table i (sum_of (code g n) t) ≡ entry_from_next g ((code g n).label i) (free i) (fewest_at table (i + 1)) (sum_of (code g n) t)
+        entries = filled.entries i (sum_of (code g n) t) (omega arith) (omega arith) (sum_in (code g n) laws usable (label_in g laws n) t n)
 
         go :
             (t i ≡ true) ⊎ (t i ≡ false) →
@@ -97,11 +97,11 @@ module _ (g : Group) (laws : Lawful g) (usable : Usable g) (n : ℕ) where
             let here = turn_in g ((code g n).label i) (free i) (fewest_at table (i + 1)) (sum_of (code g n) t) (from i (omega arith) member).0 in
             let size = size_without t i n (omega arith) member in
             let few = earlier (without t i) (from_without n free t i from) in
-            omega (arith, turns, ap (λ z. fewest_at table (i + 1) z) (rest_without t i (omega arith) member))
+            omega (arith, entries, ap (λ z. fewest_at table (i + 1) z) (rest_without t i (omega arith) member))
         go (inr not_member) earlier =
             let here = turn_out g ((code g n).label i) (free i) (fewest_at table (i + 1)) (sum_of (code g n) t) in
             let few = earlier t later in
-            omega (arith, turns)
+            omega (arith, entries)
           where
             later : From n free t (i + 1)
             later j h of_t =

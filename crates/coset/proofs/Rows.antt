@@ -5,14 +5,14 @@ use Rattle.std.proofs.lemmas.List.{get_or-set_same, get_or-set_other, get_or-rep
 use Rattle.group.specs.Group.{Group, Lawful, Usable, In, step}
 use Rattle.cells.specs.Sets.{Cellset}
 use Rattle.coset.specs.Code.{code}
-use Rattle.coset.specs.Plans.{Filled, fewest_at, turn}
+use Rattle.coset.specs.Plans.{Filled, fewest_at, entry_from_next}
 use Rattle.coset.specs.Code.{label_of}
 use Rattle.coset.specs.declared.planner.Table.{Table}
 
 -- an entry depends on the next row at elements alone
 turn_agree :
     (g : Group) (label : ℕ) (free : Bool) (next more : ℕ → ℕ) (s : ℕ) → next s ≡ more s → next (step g label s) ≡ more (step g label s) →
-    turn g label free next s ≡ turn g label free more s
+    entry_from_next g label free next s ≡ entry_from_next g label free more s
 turn_agree g label free next more s out taken = ap₂ (λ x y. cond free (min x (min (y + 1) 255)) x) out taken
 
 -- the row past the last cell
@@ -31,16 +31,16 @@ none_reached s h = go (cases_eq s 0)
 
 -- The entries of row i are written from those of the next row, and the other rows stay.
 pub record Fills (g : Group) (free : Cellset) (i : ℕ) (before after : Table) : Type 0 where
-  pub row : (s : ℕ) → s < g.order → fewest_at after i s ≡ turn g (label_of g i) (free i) (fewest_at before (i + 1)) s
+  pub row : (s : ℕ) → s < g.order → fewest_at after i s ≡ entry_from_next g (label_of g i) (free i) (fewest_at before (i + 1)) s
   pub others : (j s : ℕ) → (j ≢ i) → fewest_at after j s ≡ fewest_at before j s
 
 -- by a row that is put in its place
 pub row_put :
     (g : Group) (free : Cellset) (i : ℕ) (before : Table) (row : List ℕ) → i < length before.rows →
-    ((s : ℕ) → In g s → get_or row s 0 ≡ turn g (label_of g i) (free i) (fewest_at before (i + 1)) s) →
+    ((s : ℕ) → In g s → get_or row s 0 ≡ entry_from_next g (label_of g i) (free i) (fewest_at before (i + 1)) s) →
     Fills g free i before (record { rows = set before.rows i row })
-row_put g free i before row room turns = record {
-  row = λ s h. ap (λ r. get_or r s 0) (get_or-set_same before.rows i row [] room) ∙ turns s h;
+row_put g free i before row room entries = record {
+  row = λ s h. ap (λ r. get_or r s 0) (get_or-set_same before.rows i row [] room) ∙ entries s h;
   others = λ j s ne. ap (λ r. get_or r s 0) (get_or-set_other before.rows i j row [] ne);
 }
 
@@ -49,17 +49,17 @@ module _ (g : Group) (laws : Lawful g) (usable : Usable g) (n : ℕ) (free : Cel
       (before after : Table) (i : ℕ) → i < n → Filled (code g n) free before (i + 1) → Fills g free i before after → Filled (code g n) free after i
   filled_more before after i below filled fills = record {
     last = λ s h. fills.others n s (λ e. omega arith) ∙ filled.last s h;
-    turns = λ j s from inside h. turns j s from inside h (cases_eq j i);
+    entries = λ j s from inside h. entries j s from inside h (cases_eq j i);
   }
     where
-      kept : (j s : ℕ) → i ≤ j → In g s → turn g ((code g n).label j) (free j) (fewest_at before (j + 1)) s ≡ turn g ((code g n).label j) (free j) (fewest_at after (j + 1)) s
+      kept : (j s : ℕ) → i ≤ j → In g s → entry_from_next g ((code g n).label j) (free j) (fewest_at before (j + 1)) s ≡ entry_from_next g ((code g n).label j) (free j) (fewest_at after (j + 1)) s
       kept j s from h =
           turn_agree g ((code g n).label j) (free j) (fewest_at before (j + 1)) (fewest_at after (j + 1)) s
           (sym (fills.others (j + 1) s (λ e. omega arith)))
           (sym (fills.others (j + 1) (step g ((code g n).label j) s) (λ e. omega arith)))
 
-      turns :
+      entries :
           (j s : ℕ) → i ≤ j → j < n → In g s → (j ≡ i) ⊎ (j ≡ i → ⊥) →
-          fewest_at after j s ≡ turn g ((code g n).label j) (free j) (fewest_at after (j + 1)) s
-      turns j s from inside h (inl e) = ap (λ k. fewest_at after k s) e ∙ fills.row s h ∙ ap (λ k. turn g ((code g n).label k) (free k) (fewest_at before (k + 1)) s) (sym e) ∙ kept j s from h
-      turns j s from inside h (inr ne) = fills.others j s ne ∙ filled.turns j s (omega arith) inside h ∙ kept j s from h
+          fewest_at after j s ≡ entry_from_next g ((code g n).label j) (free j) (fewest_at after (j + 1)) s
+      entries j s from inside h (inl e) = ap (λ k. fewest_at after k s) e ∙ fills.row s h ∙ ap (λ k. entry_from_next g ((code g n).label k) (free k) (fewest_at before (k + 1)) s) (sym e) ∙ kept j s from h
+      entries j s from inside h (inr ne) = fills.others j s ne ∙ filled.entries j s (omega arith) inside h ∙ kept j s from h

@@ -4,7 +4,7 @@ use Rattle.std.proofs.lemmas.Bool.{cases_Bool, cases_eq, cases_lt, eq-eqb, ne_eq
 use Rattle.group.specs.Group.{Group, Lawful, Usable, In, step}
 use Rattle.cells.specs.Sets.{Cellset, size_below}
 use Rattle.coset.specs.Code.{code, sum_of, size_of, Reaches, Plan}
-use Rattle.coset.specs.Plans.{First, Filled, fewest_at, turn}
+use Rattle.coset.specs.Plans.{First, Filled, fewest_at, entry_from_next}
 use Rattle.coset.specs.declared.planner.Table.{Table}
 use Rattle.coset.proofs.Groups.{step_in, step_leads, step_only, sum_zero}
 use Rattle.coset.proofs.Sums.{Agree, Apart, only, either, label_in, sum_in, sum_agree, sum_either, sum_only, size_agree, size_either, size_only}
@@ -29,7 +29,7 @@ or_none false = refl
 
 -- the entry of a cell that is not taken is the next one's
 left_entry :
-    (g : Group) (label : ℕ) (free : Bool) (next : ℕ → ℕ) (s e : ℕ) → e ≡ turn g label free next s →
+    (g : Group) (label : ℕ) (free : Bool) (next : ℕ → ℕ) (s e : ℕ) → e ≡ entry_from_next g label free next s →
     (free ≡ true → min (next (step g label s) + 1) 255 ≡ e → ⊥) → next s ≡ e
 left_entry g label true next s e is worse = let no_better = worse refl in omega arith
 left_entry g label false next s e is worse = sym is
@@ -116,7 +116,7 @@ module _ (g : Group) (laws : Lawful g) (usable : Usable g) (n : ℕ) (free : Cel
           size : fewest_at table i rest ≤ fewest_at table (i + 1) (step g ((code g n).label i) rest) + 1
           size =
               let here = turn_in g ((code g n).label i) (free i) (fewest_at table (i + 1)) rest is_free in
-              omega (arith, filled.turns i rest (omega arith) inside walked.element)
+              omega (arith, filled.entries i rest (omega arith) inside walked.element)
 
           least : fewest_at table (i + 1) (sum_of (code g n) (without tail i)) ≤ size_of (code g n) (without tail i)
           least = entry_least g laws usable n free table filled (n - (i + 1)) (i + 1) (omega arith) (without tail i) (from_without n free tail i tail_from)
@@ -178,7 +178,7 @@ module _ (g : Group) (laws : Lawful g) (usable : Usable g) (n : ℕ) (free : Cel
         (free i ≡ true → min (fewest_at table (i + 1) (step g ((code g n).label i) rest) + 1) 255 ≡ fewest_at table i rest → ⊥) →
         Walked g n free table d (i + 1) chosen rest
     walk_leaves worse =
-        let same = left_entry g ((code g n).label i) (free i) (fewest_at table (i + 1)) rest (fewest_at table i rest) (filled.turns i rest (omega arith) inside walked.element) worse in
+        let same = left_entry g ((code g n).label i) (free i) (fewest_at table (i + 1)) rest (fewest_at table i rest) (filled.entries i rest (omega arith) inside walked.element) worse in
         record {
           within = λ j member. let early = (walked.within j member).1 in ((walked.within j member).0, omega arith);
           element = walked.element;

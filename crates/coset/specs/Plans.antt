@@ -25,11 +25,11 @@ fewest_at table i s = slice_index (slice_index_or table.rows i []) s
 
 -- The entry of a cell for the element s, by the row of the next cell: the cell is left out, or taken if that is better
 -- and it is free.
-abbrev pub turn : Group → ℕ → Bool → (ℕ → ℕ) → ℕ → ℕ
-turn g label free next s = cond free (min (next s) (min (next (step g label s) + 1) 255)) (next s)
+abbrev pub entry_from_next : Group → ℕ → Bool → (ℕ → ℕ) → ℕ → ℕ
+entry_from_next g label free next s = cond free (min (next s) (min (next (step g label s) + 1) 255)) (next s)
 
 -- The rows of a table from cell `first` on: past the last cell only 0 is reached, and by no cell; each cell's row comes
 -- from the next one's.
 pub record Filled (c : Code) (free : Cellset) (table : Table) (first : ℕ) : Type 0 where
   pub last : (s : ℕ) → In c.group s → fewest_at table c.cells s ≡ cond (s == 0) 0 255
-  pub turns : (i s : ℕ) → first ≤ i → i < c.cells → In c.group s → fewest_at table i s ≡ turn c.group (c.label i) (free i) (fewest_at table (i + 1)) s
+  pub entries : (i s : ℕ) → first ≤ i → i < c.cells → In c.group s → fewest_at table i s ≡ entry_from_next c.group (c.label i) (free i) (fewest_at table (i + 1)) s

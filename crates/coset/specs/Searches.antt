@@ -3,5 +3,5 @@ use Rattle.group.specs.declared.interface.Group.{Ghosts}
 use Rattle.coset.specs.Code.{Code, code}
 use Rattle.coset.specs.declared.planner.Search.{Search}
 
-abbrev pub searched : {G : Type 0} {group : Ghosts G} → Search G group → Code
-searched {group = group} s = code (group.meaning s.code.now.group) s.cells
+abbrev pub search_code : {G : Type 0} {group : Ghosts G} → Search G group → Code
+search_code {group = group} s = code (group.meaning s.code.now.group) s.cells

@@ -85,11 +85,11 @@ struct Search<'a, G: Group> {
 }
 
 impl<G: Group> Search<'_, G> {
-    ghost use Rattle.coset.specs.Searches.{searched};
+    ghost use Rattle.coset.specs.Searches.{search_code};
 
     // Past the last cell 0 alone is reached, by no cell. A loop, since each row is filled from the one before it.
     fn fill(&self, table: &mut Table)
-        ensures { Filled (searched self.now) (members_of self.now.free.now) table.new 0 }
+        ensures { Filled (search_code self.now) (members_of self.now.free.now) table.new 0 }
     {
         let mut none = [UNREACHED; ELEMENTS];
         none[0] = 0;
@@ -121,12 +121,12 @@ impl<G: Group> Search<'_, G> {
     // From the first cell on, a cell is taken wherever the fewest cells from it on can do with it. A loop, since each
     // turn goes on from the set and the step that the one before left; a fold would carry the two as a pair.
     fn walk(&self, table: &Table, step: u32) -> CellSet
-        requires filled { Filled (searched self.now) (members_of self.now.free.now) table.now 0 }
+        requires filled { Filled (search_code self.now) (members_of self.now.free.now) table.now 0 }
         requires element { In (G.Group.meaning self.now.code.now.group) step }
         requires reached { fewest_at table.now 0 step < 255 }
-        ensures plan { Plan (searched self.now) (members_of self.now.free.now) step (members_of result) }
+        ensures plan { Plan (search_code self.now) (members_of self.now.free.now) step (members_of result) }
         ensures within { (i : ℕ) → members_of result i ≡ true → i < self.now.cells }
-        ensures first { First (searched self.now) (members_of self.now.free.now) step (members_of result) }
+        ensures first { First (search_code self.now) (members_of self.now.free.now) step (members_of result) }
     {
         let mut chosen = CellSet::empty();
         let mut rest = step;

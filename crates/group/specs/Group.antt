@@ -1,7 +1,7 @@
 -- A finite abelian group with numbered elements, its laws, and the figure that its doublings give. Assumes nothing.
 use Rattle.std.specs.Prelude.{◌≡◌, ℕ, zero, suc, ◌+◌, ◌-◌, ◌/◌, ◌<◌, ◌≤◌, max, Bool, cond, not, ◌&&◌, ◌==◌, nat_lt}
 
--- The elements are the numbers below the order, and 0 is the neutral one.
+-- The elements of a usable group are the numbers below its order, and 0 is the neutral one.
 pub record Group : Type 0 where
   pub order : ℕ
   pub sum : ℕ → ℕ → ℕ
@@ -14,7 +14,7 @@ unusable = 65
 abbrev pub Usable : Group → Type 0
 Usable g = g.order ≡ unusable → ⊥
 
--- a is the number of an element
+-- a is below the order, so where g is usable the number of an element
 abbrev pub In : Group → ℕ → Type 0
 In g a = a < g.order
 
@@ -37,8 +37,8 @@ pub record Lawful (g : Group) : Type 0 where
   pub outside_left : (a b : ℕ) → g.order ≤ a → g.sum a b ≡ 0
   pub outside_right : (a b : ℕ) → g.order ≤ b → g.sum a b ≡ 0
   pub outside_opposite : (a : ℕ) → g.order ≤ a → g.opposite a ≡ 0
-  pub never_sum : g.order ≡ unusable → (a b : ℕ) → g.sum a b ≡ 0
-  pub never_opposite : g.order ≡ unusable → (a : ℕ) → g.opposite a ≡ 0
+  pub unusable_sum : g.order ≡ unusable → (a b : ℕ) → g.sum a b ≡ 0
+  pub unusable_opposite : g.order ≡ unusable → (a : ℕ) → g.opposite a ≡ 0
 
 -- the difference y - x, which added to x gives y
 abbrev pub step : Group → ℕ → ℕ → ℕ
@@ -54,6 +54,7 @@ unfoldable pub most_halves : Group → ℕ → ℕ
 most_halves g zero = 0
 most_halves g (suc d) = max (halves g (suc d) g.order) (most_halves g d)
 
--- h, the figure: a page takes so many changes, or more, from one erase to the next. `most_halves g (g.order - 1)` is e.
+-- h, the figure. With v - 1 cells to a record, or more, a page takes h changes or more from one erase to the next.
+-- `most_halves g (g.order - 1)` is e.
 unfoldable pub figure : Group → ℕ
 figure g = (g.order + 1 - most_halves g (g.order - 1)) / 4

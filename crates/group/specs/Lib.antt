@@ -1,9 +1,9 @@
 pub mod Group
-pub mod Numbered
+pub mod ZeroOutside
 pub mod Integers
 pub mod Vectors
 pub mod Product
 pub mod Modulo
-pub mod NumberedLemmas
+pub mod ZeroOutsideLemmas
 pub mod Pairs
 pub mod Xor

@@ -5,7 +5,7 @@ use Rattle.std.proofs.Math.Nat.{mod-add-mod, add-mod-mod, mod_self}
 use Rattle.std.proofs.lemmas.Bool.Decides.{nat_tests}
 use Rattle.group.specs.Group.{Lawful}
 use Rattle.group.specs.Integers.{integers, integers_usable}
-use Rattle.group.specs.NumberedLemmas.{Abelian, numbered_lawful}
+use Rattle.group.specs.ZeroOutsideLemmas.{Abelian, zero_outside_lawful}
 
 pub modular : (v : ℕ) → 0 < v → Abelian v (λ a b. (a + b) % v) (λ a. (v - a) % v)
 modular v pos = record {
@@ -19,7 +19,7 @@ modular v pos = record {
 }
 
 pub integers_lawful : (v : ℕ) → Lawful (integers v)
-integers_lawful v = numbered_lawful v _ _ (integers_usable v) given
+integers_lawful v = zero_outside_lawful v _ _ (integers_usable v) given
   where
     given : integers_usable v ≡ true → (2 ≤ v) × (v ≤ 64) × Abelian v (λ a b. (a + b) % v) (λ a. (v - a) % v)
     given u = (grind (arith, nat_tests), grind (arith, nat_tests), modular v (grind (arith, nat_tests)))

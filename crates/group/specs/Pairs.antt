@@ -7,7 +7,7 @@ use Rattle.std.proofs.lemmas.Nat.{div-add-mod', div_below, div-mul-add, mod_belo
 use Rattle.std.proofs.lemmas.Bool.Decides.{nat_tests}
 use Rattle.group.specs.Group.{Group, In, Lawful, Usable, unusable}
 use Rattle.group.specs.Product.{DirectProduct, product, product_opposite, product_size, product_sum, product_usable}
-use Rattle.group.specs.NumberedLemmas.{Abelian, at_opposite, at_sum, numbered_lawful, opposite_in, sum_in}
+use Rattle.group.specs.ZeroOutsideLemmas.{Abelian, at_opposite, at_sum, zero_outside_lawful, opposite_in, sum_in}
 
 module _ {g h : Group} (left : Lawful g) (right : Lawful h) where
   pos : 0 < h.order
@@ -78,7 +78,7 @@ module _ {g h : Group} (left : Lawful g) (right : Lawful h) where
   right_usable i e = omega (arith, mul-le 2 65 g.order h.order left.least (omega arith))
 
   pub product_lawful : Lawful (product g h)
-  product_lawful = numbered_lawful (product_size g h) (product_sum g h) (product_opposite g h) (product_usable g h) given
+  product_lawful = zero_outside_lawful (product_size g h) (product_sum g h) (product_opposite g h) (product_usable g h) given
     where
       given : product_usable g h ≡ true → (2 ≤ product_size g h) × (product_size g h ≤ 64) × Abelian (product_size g h) (product_sum g h) (product_opposite g h)
       given u =

@@ -1,7 +1,7 @@
 -- The direct product of two groups. Assumes nothing.
 use Rattle.std.specs.Prelude.{◌≡◌, ℕ, ◌+◌, ◌*◌, ◌/◌, ◌%◌, ◌<◌, ◌≤◌, Bool, nat_le}
 use Rattle.group.specs.Group.{Group, Usable, In, unusable}
-use Rattle.group.specs.Numbered.{numbered}
+use Rattle.group.specs.ZeroOutside.{zero_outside}
 
 -- the number of pairs
 abbrev pub product_size : Group → Group → ℕ
@@ -17,7 +17,7 @@ abbrev pub product_opposite : Group → Group → ℕ → ℕ
 product_opposite g h x = let r = h.order in g.opposite (x / r) * r + h.opposite (x % r)
 
 abbrev pub product : Group → Group → Group
-product g h = numbered (product_usable g h) (product_size g h) (product_sum g h) (product_opposite g h)
+product g h = zero_outside (product_usable g h) (product_size g h) (product_sum g h) (product_opposite g h)
 
 -- k is the product of g and h, if both are usable and there are at most 64 pairs, and is unusable otherwise.
 -- The pair of a and b has the number a * r + b, where r is the order of h.

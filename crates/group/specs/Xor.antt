@@ -6,7 +6,7 @@ use Rattle.std.proofs.lemmas.Nat.{pow_below, xor_comm, xor_lt}
 use Rattle.std.proofs.lemmas.Bool.Decides.{nat_tests}
 use Rattle.group.specs.Group.{Lawful}
 use Rattle.group.specs.Vectors.{vectors, vectors_usable}
-use Rattle.group.specs.NumberedLemmas.{Abelian, numbered_lawful}
+use Rattle.group.specs.ZeroOutsideLemmas.{Abelian, zero_outside_lawful}
 
 pub binary : (m : ℕ) → Abelian (2 ^ m) bit_xor (λ a. a)
 binary m = record {
@@ -18,7 +18,7 @@ binary m = record {
 }
 
 pub vectors_lawful : (m : ℕ) → Lawful (vectors m)
-vectors_lawful m = numbered_lawful (2 ^ m) bit_xor (λ a. a) (vectors_usable m) given
+vectors_lawful m = zero_outside_lawful (2 ^ m) bit_xor (λ a. a) (vectors_usable m) given
   where
     given : vectors_usable m ≡ true → (2 ≤ 2 ^ m) × (2 ^ m ≤ 64) × Abelian (2 ^ m) bit_xor (λ a. a)
     given u =

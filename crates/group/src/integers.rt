@@ -1,7 +1,7 @@
 // The integers modulo a number from 2 to 64, which is the group's order.
 // Any other modulus makes an unusable group.
 ghost use Rattle.std.specs.Prelude.{◌≡◌};
-ghost use Rattle.group.specs.Integers.{integers, Modular};
+ghost use Rattle.group.specs.Integers.{integers, IntegersModulo};
 ghost use Rattle.group.specs.Modulo.{integers_lawful};
 
 use crate::interface::{Group, MAX_ORDER, UNUSABLE};
@@ -15,7 +15,7 @@ impl Integers {
     // the group of the integers modulo `modulus`
     pub fn new(modulus: u32) -> Self
         ensures holds { result.modulus ≡ modulus }
-        ensures means { Modular modulus (integers result.modulus) }
+        ensures means { IntegersModulo modulus (integers result.modulus) }
     {
         Integers { modulus }
     }

@@ -1,4 +1,4 @@
-// The trait of the finite abelian groups whose elements are numbered from 0.
+// The trait of the finite abelian groups whose elements are zero_outside from 0.
 // A group may be unusable: its order is then 65, and its sums and opposites are 0.
 ghost use Rattle.std.specs.Prelude.{◌≡◌};
 ghost use Rattle.group.specs.Group.{Group as GroupMeaning, Lawful, has, is_usable, step};

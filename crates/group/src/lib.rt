@@ -1,4 +1,4 @@
-// Finite abelian groups of at most 64 elements, numbered from 0: the integers modulo a number,
+// Finite abelian groups of at most 64 elements, zero_outside from 0: the integers modulo a number,
 // the binary vectors, and the products of groups.
 #![tactic(auto)]
 

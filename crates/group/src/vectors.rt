@@ -1,7 +1,7 @@
 // The binary vectors of 1 to 6 bits, whose sum is exclusive or.
 // Any other number of bits makes an unusable group.
 ghost use Rattle.std.specs.Prelude.{◌≡◌};
-ghost use Rattle.group.specs.Vectors.{vectors, Binary};
+ghost use Rattle.group.specs.Vectors.{vectors, BinaryVectors};
 ghost use Rattle.group.specs.Xor.{vectors_lawful};
 
 use crate::interface::{Group, UNUSABLE};
@@ -20,7 +20,7 @@ impl Vectors {
     // the group of the vectors of `bits` bits
     pub fn new(bits: u32) -> Self
         ensures holds { result.bits ≡ bits }
-        ensures means { Binary bits (vectors result.bits) }
+        ensures means { BinaryVectors bits (vectors result.bits) }
     {
         let order = if 1 <= bits && bits <= MAX_BITS {
             1 << bits

@@ -12,7 +12,7 @@ use Rattle.cells.specs.Cells.{Cells, Alike}
 use Rattle.cells.specs.Rows.{Served}
 use Rattle.images.specs.Image.{count_bytes, limit_of, bit, reads, width_at, pages_at, page_bytes, page_at, pages_of, width_of, count_of, wear_of, decoded}
 use Rattle.images.specs.Check.{image_rows, Checks}
-use Rattle.images.specs.Written.{Writable, digit, bit_for, page_byte, written, Exact, ReadBack, WrittenOut}
+use Rattle.images.specs.Written.{Writable, big_endian_byte, bit_for, page_byte, written, Exact, ReadBack, WrittenOut}
 use Rattle.images.proofs.Tables.{served_not_refused}
 use Rattle.images.proofs.ByteBits.{byte_of_bits, byte_same, bit_for_read, digits_of}
 use Rattle.images.proofs.Writing.{written_length, written_pages, written_count, written_width_high, written_width_low, written_page}
@@ -21,15 +21,15 @@ use Rattle.images.proofs.ReadBack.{read_back, written_served}
 
 -- the digits of a wear count are its bytes
 module _ (xs : List ℕ) (small : (i : ℕ) → get_or xs i 0 < 256) where
-  count_digit : (p j : ℕ) → j < 4 → digit (count_of xs p) j ≡ get_or xs (1 + (4 * p + j)) 0
+  count_digit : (p j : ℕ) → j < 4 → big_endian_byte (count_of xs p) j ≡ get_or xs (1 + (4 * p + j)) 0
   count_digit p j h = go j h
     where
-      all : (digit (count_of xs p) 0 ≡ get_or xs (1 + 4 * p) 0) × (digit (count_of xs p) 1 ≡ get_or xs (2 + 4 * p) 0) × (digit (count_of xs p) 2 ≡ get_or xs (3 + 4 * p) 0) × (digit (count_of xs p) 3 ≡ get_or xs (4 + 4 * p) 0)
+      all : (big_endian_byte (count_of xs p) 0 ≡ get_or xs (1 + 4 * p) 0) × (big_endian_byte (count_of xs p) 1 ≡ get_or xs (2 + 4 * p) 0) × (big_endian_byte (count_of xs p) 2 ≡ get_or xs (3 + 4 * p) 0) × (big_endian_byte (count_of xs p) 3 ≡ get_or xs (4 + 4 * p) 0)
       all =
           digits_of (get_or xs (1 + 4 * p) 0) (get_or xs (2 + 4 * p) 0) (get_or xs (3 + 4 * p) 0) (get_or xs (4 + 4 * p) 0) (small (1 + 4 * p))
           (small (2 + 4 * p)) (small (3 + 4 * p)) (small (4 + 4 * p))
 
-      go : (i : ℕ) → i < 4 → digit (count_of xs p) i ≡ get_or xs (1 + (4 * p + i)) 0
+      go : (i : ℕ) → i < 4 → big_endian_byte (count_of xs p) i ≡ get_or xs (1 + (4 * p + i)) 0
       go zero lt = all.0 ∙ ap (λ n. get_or xs n 0) (omega arith)
       go (suc zero) lt = all.1 ∙ ap (λ n. get_or xs n 0) (omega arith)
       go (suc (suc zero)) lt = all.2 ∙ ap (λ n. get_or xs n 0) (omega arith)
@@ -52,10 +52,10 @@ module _ (f : Format) (xs : List ℕ) (small : (i : ℕ) → get_or xs i 0 < 256
   pub writable : Writable f m
   writable =
       record {
-        some = good.some;
-        few = good.few;
-        wide = good.wide;
-        narrow = good.narrow;
+        pages_least = good.pages_least;
+        pages_most = good.pages_most;
+        width_least = good.width_least;
+        width_most = good.width_most;
         limit = refl;
         wear = λ p h. below f p;
       }
@@ -65,13 +65,13 @@ module _ (f : Format) (xs : List ℕ) (small : (i : ℕ) → get_or xs i 0 < 256
       below Flash p = omega arith
 
   -- a byte of the wear counts
-  same_count : (g : Format) → f ≡ g → (k : ℕ) → k < count_bytes g * P → digit (wear_of g xs (k / 4)) (k % 4) ≡ get_or xs (1 + k) 0
+  same_count : (g : Format) → f ≡ g → (k : ℕ) → k < count_bytes g * P → big_endian_byte (wear_of g xs (k / 4)) (k % 4) ≡ get_or xs (1 + k) 0
   same_count Fuse e k h = absurd (omega arith)
   same_count Flash e k h =
       let kept = good.worn e (k / 4) (omega arith) in
       let held : min 10000 (count_of xs (k / 4)) ≡ count_of xs (k / 4) = omega arith in
       let whole : 1 + (4 * (k / 4) + k % 4) ≡ 1 + k = omega arith in
-      ap (λ w. digit w (k % 4)) held ∙ count_digit xs small (k / 4) (k % 4) (omega arith) ∙ ap (λ n. get_or xs n 0) whole
+      ap (λ w. big_endian_byte w (k % 4)) held ∙ count_digit xs small (k / 4) (k % 4) (omega arith) ∙ ap (λ n. get_or xs n 0) whole
 
   -- an unused bit does not read as set
   no_stray : (p i : ℕ) → p < P → i < 8 * page_bytes c → (ltb i c && m.set p i) ≡ m.set p i
@@ -102,7 +102,7 @@ module _ (f : Format) (xs : List ℕ) (small : (i : ℕ) → get_or xs i 0 < 256
   same_page : (k : ℕ) → k < P * page_bytes c → page_byte f m (k / page_bytes c) (k % page_bytes c) ≡ get_or xs (pages_at f P + k) 0
   same_page k h =
       let w = page_bytes c in
-      let some : 0 < page_bytes c = omega (arith, good.wide) in
+      let some : 0 < page_bytes c = omega (arith, good.width_least) in
       same_byte (k / w) (k % w) (div_below k w P some h) (mod_below k w some)
       ∙ ap (λ n. get_or xs n 0) (add_assoc (pages_at f P) (k / w * w) (k % w) ∙ ap (λ n. pages_at f P + n) (div-add-mod' k w))
 

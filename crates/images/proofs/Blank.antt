@@ -8,8 +8,8 @@ use Rattle.std.proofs.lemmas.Bool.{and_right}
 use Rattle.images.specs.declared.format.Format.TheVariants.{Flash}
 use Rattle.cells.specs.Rows.{Served}
 use Rattle.images.specs.Image.{page_bytes, size}
-use Rattle.images.specs.Written.{Writable, digit, bit_for, page_byte, written}
-use Rattle.images.specs.Fresh.{blank, count_checks, FreshImage}
+use Rattle.images.specs.Written.{Writable, big_endian_byte, bit_for, page_byte, written}
+use Rattle.images.specs.Fresh.{blank, fresh_rows, FreshImage}
 use Rattle.images.proofs.ByteBits.{byte_same}
 use Rattle.images.proofs.ReadBack.{read_back, written_served}
 
@@ -21,7 +21,7 @@ constant f n y same =
     let lt : i < n = rw (length-map-range_with_len f 0 n) at h in
     get_or-map-range_with_len f 0 n i i 0 lt (omega arith) ∙ same i ∙ sym (get_or-replicate n i y 0 lt))
 
-no_wear : (k : ℕ) → digit 0 (k % 4) ≡ 0
+no_wear : (k : ℕ) → big_endian_byte 0 (k % 4) ≡ 0
 no_wear k = ap (λ x. x % 256) (zero-div (256 ^ (3 - k % 4)))
 
 no_cell : (P c p j : ℕ) → page_byte Flash (blank P c) p j ≡ 255
@@ -36,10 +36,10 @@ module _ (P c : ℕ) where
   unfolding written
   blank_bytes =
       ap₂ (λ counts pages. (P ∷ counts) ++ ((c / 256) ∷ ((c % 256) ∷ pages)))
-      (constant (λ k. digit 0 (k % 4)) (4 * P) 0 no_wear)
+      (constant (λ k. big_endian_byte 0 (k % 4)) (4 * P) 0 no_wear)
       (constant (λ k. page_byte Flash (blank P c) (k / page_bytes c) (k % page_bytes c)) (P * page_bytes c) 255 (λ k. no_cell P c _ _))
 
-  pub fresh_image : Served (count_checks P c) → (xs : List ℕ) → xs ≡ written Flash (blank P c) → FreshImage P c xs
+  pub fresh_image : Served (fresh_rows P c) → (xs : List ℕ) → xs ≡ written Flash (blank P c) → FreshImage P c xs
   fresh_image served xs e =
       let a : P ≡ 0 → ⊥ = λ z. served.0 (inl z) in
       let b : 64 < P → ⊥ = λ h. served.0 (inr h) in
@@ -47,10 +47,10 @@ module _ (P c : ℕ) where
       let f : 1024 < c → ⊥ = λ h. served.1.0 (inr h) in
       let ok : Writable Flash (blank P c) =
       record {
-        some = omega arith;
-        few = omega arith;
-        wide = omega arith;
-        narrow = omega arith;
+        pages_least = omega arith;
+        pages_most = omega arith;
+        width_least = omega arith;
+        width_most = omega arith;
         limit = refl;
         wear = λ p h. omega arith;
       } in

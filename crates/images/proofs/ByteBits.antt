@@ -4,8 +4,8 @@ use native.Mathlib.Nat.{div-div-eq-div-mul}
 use Rattle.std.proofs.lemmas.Bool.{eqb-true}
 use Rattle.images.specs.declared.format.Format.{Format}
 use Rattle.images.specs.declared.format.Format.TheVariants.{Fuse, Flash}
-use Rattle.images.specs.Image.{bit, set_bit, reads}
-use Rattle.images.specs.Written.{digit, byte_of, bit_for}
+use Rattle.images.specs.Image.{bit, set_cell_bit, reads}
+use Rattle.images.specs.Written.{big_endian_byte, byte_of, bit_for}
 use Rattle.cells.proofs.Finite.{passes}
 use Rattle.images.proofs.Bits.{zero_or_one}
 
@@ -59,7 +59,7 @@ bit_for_small Fuse false = omega arith
 bit_for_small Flash true = omega arith
 bit_for_small Flash false = omega arith
 
-pub bit_for_reads : (f : Format) (s : Bool) → eqb (bit_for f s) (set_bit f) ≡ s
+pub bit_for_reads : (f : Format) (s : Bool) → eqb (bit_for f s) (set_cell_bit f) ≡ s
 bit_for_reads Fuse true = refl
 bit_for_reads Fuse false = refl
 bit_for_reads Flash true = refl
@@ -68,14 +68,14 @@ bit_for_reads Flash false = refl
 pub bit_for_read : (f : Format) (x k : ℕ) → bit_for f (reads f x k) ≡ bit x k
 bit_for_read f x k = go f (bit x k) (zero_or_one x k)
   where
-    go : (g : Format) (z : ℕ) → ((z ≡ 0) ⊎ (z ≡ 1)) → bit_for g (eqb z (set_bit g)) ≡ z
+    go : (g : Format) (z : ℕ) → ((z ≡ 0) ⊎ (z ≡ 1)) → bit_for g (eqb z (set_cell_bit g)) ≡ z
     go Fuse z (inl e) = rw e refl
     go Fuse z (inr e) = rw e refl
     go Flash z (inl e) = rw e refl
     go Flash z (inr e) = rw e refl
 
 -- a number of four bytes is the sum of its digits
-pub four_digits : (w : ℕ) → w < 4294967296 → digit w 0 * 16777216 + digit w 1 * 65536 + digit w 2 * 256 + digit w 3 ≡ w
+pub four_digits : (w : ℕ) → w < 4294967296 → big_endian_byte w 0 * 16777216 + big_endian_byte w 1 * 65536 + big_endian_byte w 2 * 256 + big_endian_byte w 3 ≡ w
 four_digits w h =
     let b = div-div-eq-div-mul w 256 256 in
     let c = div-div-eq-div-mul w 65536 256 in
@@ -85,6 +85,6 @@ four_digits w h =
 -- and the digits of a sum of four bytes are those bytes
 pub digits_of :
     (a b c d : ℕ) → a < 256 → b < 256 → c < 256 → d < 256 →
-    (digit (a * 16777216 + b * 65536 + c * 256 + d) 0 ≡ a) × (digit (a * 16777216 + b * 65536 + c * 256 + d) 1 ≡ b)
-    × (digit (a * 16777216 + b * 65536 + c * 256 + d) 2 ≡ c) × (digit (a * 16777216 + b * 65536 + c * 256 + d) 3 ≡ d)
+    (big_endian_byte (a * 16777216 + b * 65536 + c * 256 + d) 0 ≡ a) × (big_endian_byte (a * 16777216 + b * 65536 + c * 256 + d) 1 ≡ b)
+    × (big_endian_byte (a * 16777216 + b * 65536 + c * 256 + d) 2 ≡ c) × (big_endian_byte (a * 16777216 + b * 65536 + c * 256 + d) 3 ≡ d)
 digits_of a b c d ha hb hc hd = (omega arith, omega arith, omega arith, omega arith)

@@ -4,7 +4,7 @@ use Rattle.images.specs.declared.format.Format.{Format}
 use Rattle.images.specs.declared.format.Format.TheVariants.{Fuse, Flash}
 use Rattle.cells.specs.Rows.{Served}
 use Rattle.images.specs.Image.{count_bytes, width_at, size, pages_of, width_of, count_of}
-use Rattle.images.specs.Check.{first_rows, counts_rows, wear_rows, width_rows, body_rows, image_rows, Stray}
+use Rattle.images.specs.Check.{page_count_rows, wear_counts_below, wear_rows, width_rows, body_rows, image_rows, Stray}
 use Rattle.images.proofs.Tables.{served_first, served_rest}
 use Rattle.images.proofs.Checks.{counts_each, counts_all, at_end}
 
@@ -12,10 +12,10 @@ use Rattle.images.proofs.Checks.{counts_each, counts_all, at_end}
 pub record Good (f : Format) (P c : ℕ) (xs : List ℕ) : Type 0 where
   pub pages : P ≡ pages_of xs
   pub width : c ≡ width_of f xs
-  pub some : 1 ≤ P
-  pub few : P ≤ 64
-  pub wide : 1 ≤ c
-  pub narrow : c ≤ 1024
+  pub pages_least : 1 ≤ P
+  pub pages_most : P ≤ 64
+  pub width_least : 1 ≤ c
+  pub width_most : c ≤ 1024
   pub long : length xs ≡ size f P c
   pub worn : f ≡ Flash → (p : ℕ) → p < P → count_of xs p ≤ 10000
   pub clean : (p : ℕ) → p < P → Stray f P c xs p → ⊥
@@ -27,11 +27,11 @@ module _ (f : Format) (xs : List ℕ) (served : Served (image_rows f xs)) where
   abbrev c : ℕ
   c = width_of f xs
 
-  first : Served (first_rows xs)
-  first = served_first (first_rows xs) _ served
+  first : Served (page_count_rows xs)
+  first = served_first (page_count_rows xs) _ served
 
   after_first : Served (wear_rows f xs ++ (width_rows f xs ++ body_rows f P c xs))
-  after_first = served_rest (first_rows xs) _ served
+  after_first = served_rest (page_count_rows xs) _ served
 
   after_wear : Served (width_rows f xs ++ body_rows f P c xs)
   after_wear = served_rest (wear_rows f xs) _ after_first
@@ -44,7 +44,7 @@ module _ (f : Format) (xs : List ℕ) (served : Served (image_rows f xs)) where
 
   worn_part : f ≡ Flash → (p : ℕ) → p < P → count_of xs p ≤ 10000
   worn_part e p h =
-      let rows : Served (counts_rows xs P) =
+      let rows : Served (wear_counts_below xs P) =
       subst (λ g. Served (wear_rows g xs)) e (served_first (wear_rows f xs) (width_rows f xs ++ body_rows f P c xs) after_first) in
       omega (arith, (counts_each xs P rows p h).1.0)
 
@@ -57,22 +57,22 @@ module _ (f : Format) (xs : List ℕ) (served : Served (image_rows f xs)) where
       record {
         pages = refl;
         width = refl;
-        some = omega arith;
-        few = omega arith;
-        wide = omega arith;
-        narrow = omega arith;
+        pages_least = omega arith;
+        pages_most = omega arith;
+        width_least = omega arith;
+        width_most = omega arith;
         long = omega (arith, body_part.0, body_part.1.1.0);
         worn = worn_part;
         clean = λ p h s. body_part.1.0 (p, h, s);
       }
 
 module _ (f : Format) (P c : ℕ) (xs : List ℕ) (good : Good f P c xs) where
-  first_served : Served (first_rows xs)
+  first_served : Served (page_count_rows xs)
   first_served = let e = good.pages in let n = good.long in (λ h. omega arith, (no_row, tt))
     where
       no_row : ((pages_of xs ≡ 0) ⊎ (64 < pages_of xs)) → ⊥
-      no_row (inl h) = let e = good.pages in omega (arith, good.some)
-      no_row (inr h) = let e = good.pages in omega (arith, good.few)
+      no_row (inl h) = let e = good.pages in omega (arith, good.pages_least)
+      no_row (inr h) = let e = good.pages in omega (arith, good.pages_most)
 
   wear_served : (g : Format) → f ≡ g → Served (wear_rows g xs)
   wear_served Fuse e = tt
@@ -92,8 +92,8 @@ module _ (f : Format) (P c : ℕ) (xs : List ℕ) (good : Good f P c xs) where
       (λ h. omega arith, (no_row, tt))
     where
       no_row : ((width_of f xs ≡ 0) ⊎ (1024 < width_of f xs)) → ⊥
-      no_row (inl h) = let e = good.width in omega (arith, good.wide)
-      no_row (inr h) = let e = good.width in omega (arith, good.narrow)
+      no_row (inl h) = let e = good.width in omega (arith, good.width_least)
+      no_row (inr h) = let e = good.width in omega (arith, good.width_most)
 
   pub good_served : Served (image_rows f xs)
   good_served =

@@ -9,9 +9,9 @@ use Rattle.images.specs.declared.format.Format.TheVariants.{Flash}
 use Rattle.images.specs.declared.layout.Layout.{Layout}
 use Rattle.cells.specs.Rows.{Refused}
 use Rattle.cells.specs.Device.{Marked}
-use Rattle.images.specs.Image.{count_bytes, width_at, page_at, width_of, count_of, cells_at, fits, part_cells, SetsBit}
+use Rattle.images.specs.Image.{count_bytes, width_at, page_at, width_of, count_of, cells_read, fits, part_cells, SetsBit}
 use Rattle.images.specs.Check.{image_rows, Stray, Accepted, Checks, ReadsAs}
-use Rattle.images.specs.Bytes.{BitSet, PageErased, Finds}
+use Rattle.images.specs.Bytes.{BitMarked, PageErased, Finds}
 use Rattle.images.proofs.Offsets.{shown, part_is}
 use Rattle.images.proofs.Tables.{served_not_refused}
 use Rattle.images.proofs.Good.{Good, served_good, good_served}
@@ -43,10 +43,10 @@ module _ (f : Format) (l : Layout) (xs ys : List ℕ) (was : Good f l.pages l.wi
         (record {
           pages = was.pages ∙ sym same_pages;
           width = width_kept;
-          some = was.some;
-          few = was.few;
-          wide = was.wide;
-          narrow = was.narrow;
+          pages_least = was.pages_least;
+          pages_most = was.pages_most;
+          width_least = was.width_least;
+          width_most = was.width_most;
           long = same_length ∙ was.long;
           worn = worn;
           clean = clean;
@@ -57,7 +57,7 @@ module _ (f : Format) (l : Layout) (xs ys : List ℕ) (was : Good f l.pages l.wi
 
 -- a mark
 module _ (f : Format) (l : Layout) (p i : ℕ) (xs ys : List ℕ) (a : p < l.pages) (b : i < l.width)
-    (w : BitSet f (page_at f l.pages l.width p + i / 8) (i % 8) xs ys) where
+    (w : BitMarked f (page_at f l.pages l.width p + i / 8) (i % 8) xs ys) where
   pub mark_intact : Accepted f l xs → Accepted f l ys
   mark_intact was =
       let good = layout_good f l xs was in
@@ -104,7 +104,7 @@ module _ (l : Layout) (p : ℕ) (xs ys : List ℕ) (a : p < l.pages) (fresh : co
       clean good q h s (inl here) =
           let inside = s.inside in
           both_ways _ (bit_erased l.pages l.width p xs ys a w s.place (omega arith))
-          (subst (λ k. (cells_at Flash l.pages l.width ys).set k s.place ≡ true) here s.reads)
+          (subst (λ k. (cells_read Flash l.pages l.width ys).set k s.place ≡ true) here s.reads)
       clean good q h s (inr other) =
           let inside = s.inside in
           good.clean q h
@@ -119,12 +119,12 @@ module _ (l : Layout) (p : ℕ) (xs ys : List ℕ) (a : p < l.pages) (fresh : co
 module _ (f : Format) (l : Layout) (xs : List ℕ) (p i at y : ℕ) (found : Finds f l xs p i (Ok at)) (s : SetsBit f (i % 8) (get_or xs at 0) y) where
   pub mark_done :
       Marked p i (part_cells f l xs) (part_cells f l (set xs at y))
-      × BitSet f (page_at f l.pages l.width p + i / 8) (i % 8) xs (set xs at y)
+      × BitMarked f (page_at f l.pages l.width p + i / 8) (i % 8) xs (set xs at y)
       × (Accepted f l xs → Accepted f l (set xs at y))
   mark_done =
       let one = shown (fits f l xs) l.pages p (omega (arith, found.0.0)) in
       let two = shown (fits f l xs) l.width i (omega (arith, found.0.1.0)) in
-      let here = subst (λ a. BitSet f a (i % 8) xs (set xs at y)) found.1 (bit_written f xs at (i % 8) y found.3 s) in
+      let here = subst (λ a. BitMarked f a (i % 8) xs (set xs at y)) found.1 (bit_written f xs at (i % 8) y found.3 s) in
       (part_marked f l p i xs (set xs at y) one.0 one.1 two.1 here, here, mark_intact f l p i xs (set xs at y) one.1 two.1 here)
 
 -- What a part reads an image as, accepted or refused.
@@ -134,7 +134,7 @@ module _ (f : Format) (xs : List ℕ) (l : Layout) where
       let good = layout_good f l xs was in
       record {
         layout = λ _. was;
-        accepted = λ _. part_is f l xs (le-leb _ _ (let n = good.long in omega arith)) ∙ ap₂ (λ P c. cells_at f P c xs) was.1 was.2;
+        accepted = λ _. part_is f l xs (le-leb _ _ (let n = good.long in omega arith)) ∙ ap₂ (λ P c. cells_read f P c xs) was.1 was.2;
         refused = λ bad. absurd (bad was.0);
       }
 
@@ -143,7 +143,7 @@ module _ (f : Format) (xs : List ℕ) (l : Layout) where
       record {
         layout = λ good. absurd (served_not_refused (image_rows f xs) r good bad);
         accepted = λ good. absurd (served_not_refused (image_rows f xs) r good bad);
-        refused = λ _. ap₂ (λ P c. cells_at f P c xs) (none (fits f l xs) l.pages a) (none (fits f l xs) l.width b);
+        refused = λ _. ap₂ (λ P c. cells_read f P c xs) (none (fits f l xs) l.pages a) (none (fits f l xs) l.width b);
       }
     where
       none : (t : Bool) (n : ℕ) → n ≡ 0 → cond t n 0 ≡ 0

@@ -6,7 +6,7 @@ use Rattle.images.specs.declared.format.Format.{Format}
 use Rattle.images.specs.declared.layout.Layout.{Layout}
 use Rattle.cells.specs.Rows.{Served}
 use Rattle.cells.specs.Device.{cell_rows}
-use Rattle.images.specs.Image.{page_bytes, page_at, size, cells_at, fits, part_cells}
+use Rattle.images.specs.Image.{page_bytes, page_at, size, cells_read, fits, part_cells}
 use Rattle.images.specs.Bytes.{Finds}
 
 -- places in blocks of w are the same only where block and place are
@@ -30,8 +30,8 @@ shown true x p h = (refl, h)
 shown false x p h = absurd (omega arith)
 
 module _ (f : Format) (l : Layout) (xs : List ℕ) where
-  pub part_is : fits f l xs ≡ true → part_cells f l xs ≡ cells_at f l.pages l.width xs
-  part_is e = ap (λ b. cells_at f (cond b l.pages 0) (cond b l.width 0) xs) e
+  pub part_is : fits f l xs ≡ true → part_cells f l xs ≡ cells_read f l.pages l.width xs
+  part_is e = ap (λ b. cells_read f (cond b l.pages 0) (cond b l.width 0) xs) e
 
   pub suffices : fits f l xs ≡ true → size f l.pages l.width ≤ length xs
   suffices e = leb-true _ _ e

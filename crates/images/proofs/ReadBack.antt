@@ -6,9 +6,9 @@ use Rattle.images.specs.declared.format.Format.{Format}
 use Rattle.images.specs.declared.format.Format.TheVariants.{Fuse, Flash}
 use Rattle.cells.specs.Cells.{Cells, Alike}
 use Rattle.cells.specs.Rows.{Served}
-use Rattle.images.specs.Image.{count_bytes, limit_of, bit, set_bit, width_at, pages_at, page_bytes, page_at, width_of, count_of, wear_of, cells_at, decoded}
+use Rattle.images.specs.Image.{count_bytes, limit_of, bit, set_cell_bit, width_at, pages_at, page_bytes, page_at, width_of, count_of, wear_of, cells_read, decoded}
 use Rattle.images.specs.Check.{image_rows, Stray}
-use Rattle.images.specs.Written.{Writable, digit, bit_for, page_byte, written}
+use Rattle.images.specs.Written.{Writable, big_endian_byte, bit_for, page_byte, written}
 use Rattle.images.proofs.ByteBits.{bit_of_byte, bit_for_small, bit_for_reads, four_digits}
 use Rattle.images.proofs.Writing.{written_length, written_pages, written_count, written_width_high, written_width_low, written_page}
 use Rattle.images.proofs.Good.{good_served}
@@ -41,17 +41,17 @@ module _ (f : Format) (m : Cells) (ok : Writable f m) where
       let whole = four_digits (m.wear p) (omega arith) in
       (omega arith, below)
     where
-      byte : (j n : ℕ) → j < 4 → n ≡ 1 + (4 * p + j) → get_or xs n 0 ≡ digit (m.wear p) j
+      byte : (j n : ℕ) → j < 4 → n ≡ 1 + (4 * p + j) → get_or xs n 0 ≡ big_endian_byte (m.wear p) j
       byte j n lt at =
           let four : count_bytes f * m.pages ≡ 4 * m.pages = ap (λ g. count_bytes g * m.pages) e in
           let quotient : (4 * p + j) / 4 ≡ p = omega arith in
           let remainder : (4 * p + j) % 4 ≡ j = omega arith in
-          ap (λ i. get_or xs i 0) at ∙ written_count f m (4 * p + j) (omega arith) ∙ ap₂ (λ q i. digit (m.wear q) i) quotient remainder
+          ap (λ i. get_or xs i 0) at ∙ written_count f m (4 * p + j) (omega arith) ∙ ap₂ (λ q i. big_endian_byte (m.wear q) i) quotient remainder
 
   -- a bit of a page is that of its cell, and of no cell where it is past the width
   bit_back :
       (p i : ℕ) → p < m.pages → i < 8 * page_bytes m.width →
-      (cells_at f m.pages m.width xs).set p i ≡ (ltb i m.width && m.set p i)
+      (cells_read f m.pages m.width xs).set p i ≡ (ltb i m.width && m.set p i)
   bit_back p i h lt =
       let w = page_bytes m.width in
       let j : i / 8 < page_bytes m.width = omega arith in
@@ -62,16 +62,16 @@ module _ (f : Format) (m : Cells) (ok : Writable f m) where
       ∙ written_page f m (p * w + i / 8) place
       ∙ ap₂ (page_byte f m) (div-mul-add p w (i / 8) j) (mod-mul-add p w (i / 8) j) in
       let whole : 8 * (i / 8) + i % 8 ≡ i = omega arith in
-      ap (λ x. eqb (bit x (i % 8)) (set_bit f)) byte
-      ∙ ap (λ z. eqb z (set_bit f)) (page_bit f m p (i / 8) (i % 8) (omega arith))
+      ap (λ x. eqb (bit x (i % 8)) (set_cell_bit f)) byte
+      ∙ ap (λ z. eqb z (set_cell_bit f)) (page_bit f m p (i / 8) (i % 8) (omega arith))
       ∙ bit_for_reads f _
       ∙ ap (λ n. ltb n m.width && m.set p n) whole
 
   -- the meaning by the counts that are read is the meaning by the counts that were written
-  decoded_is : decoded f xs ≡ cells_at f m.pages m.width xs
-  decoded_is = ap₂ (λ P c. cells_at f P c xs) (written_pages f m) width_back
+  decoded_is : decoded f xs ≡ cells_read f m.pages m.width xs
+  decoded_is = ap₂ (λ P c. cells_read f P c xs) (written_pages f m) width_back
 
-  same_cells : Alike m (cells_at f m.pages m.width xs)
+  same_cells : Alike m (cells_read f m.pages m.width xs)
   same_cells =
       record {
         shape = record { pages = refl; width = refl; limit = sym ok.limit };
@@ -101,10 +101,10 @@ module _ (f : Format) (m : Cells) (ok : Writable f m) where
       (record {
         pages = sym (written_pages f m);
         width = sym width_back;
-        some = ok.some;
-        few = ok.few;
-        wide = ok.wide;
-        narrow = ok.narrow;
+        pages_least = ok.pages_least;
+        pages_most = ok.pages_most;
+        width_least = ok.width_least;
+        width_most = ok.width_most;
         long = written_length f m;
         worn = λ e p h. let back = count_back e p h in omega arith;
         clean = no_stray;

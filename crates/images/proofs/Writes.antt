@@ -7,8 +7,8 @@ use Rattle.images.specs.declared.format.Format.{Format}
 use Rattle.images.specs.declared.format.Format.TheVariants.{Fuse, Flash}
 use Rattle.images.specs.declared.layout.Layout.{Layout}
 use Rattle.cells.specs.Device.{Marked, Erased}
-use Rattle.images.specs.Image.{count_bytes, reads, set_bit, SetsBit, page_bytes, page_at, size, count_of, wear_of, cells_at, fits, part_cells}
-use Rattle.images.specs.Bytes.{BitSet, PageErased}
+use Rattle.images.specs.Image.{count_bytes, reads, set_cell_bit, SetsBit, page_bytes, page_at, size, count_of, wear_of, cells_read, fits, part_cells}
+use Rattle.images.specs.Bytes.{BitMarked, PageErased}
 use Rattle.images.proofs.Offsets.{same_block, same_place, byte_within, page_within, part_is}
 use Rattle.images.proofs.ByteBits.{four_digits}
 use Rattle.cells.proofs.Finite.{passes}
@@ -24,7 +24,7 @@ count_same xs ys q same =
     omega arith
 
 -- one byte set
-pub bit_written : (f : Format) (xs : List ℕ) (at k y : ℕ) → at < length xs → SetsBit f k (get_or xs at 0) y → BitSet f at k xs (set xs at y)
+pub bit_written : (f : Format) (xs : List ℕ) (at k y : ℕ) → at < length xs → SetsBit f k (get_or xs at 0) y → BitMarked f at k xs (set xs at y)
 bit_written f xs at k y h s =
     record {
       length = length-set xs at y;
@@ -33,27 +33,27 @@ bit_written f xs at k y h s =
     }
 
 module _ (f : Format) (P c p i : ℕ) (xs ys : List ℕ) (a : p < P) (b : i < c)
-    (w : BitSet f (page_at f P c p + i / 8) (i % 8) xs ys) where
+    (w : BitMarked f (page_at f P c p + i / 8) (i % 8) xs ys) where
   wear_kept : (g : Format) → f ≡ g → (q : ℕ) → q < P → wear_of g ys q ≡ wear_of g xs q
   wear_kept Fuse e q h = refl
   wear_kept Flash e q h = ap (min 10000) (count_same xs ys q (λ j lo hi. w.others j (λ at. let four : count_bytes f * P ≡ 4 * P = ap (λ g. count_bytes g * P) e in omega arith)))
 
   -- every other bit of a page, unused ones too
-  pub bit_kept : (q j : ℕ) → q < P → j / 8 < page_bytes c → ((q ≡ p) × (j ≡ i) → ⊥) → (cells_at f P c ys).set q j ≡ (cells_at f P c xs).set q j
+  pub bit_kept : (q j : ℕ) → q < P → j / 8 < page_bytes c → ((q ≡ p) × (j ≡ i) → ⊥) → (cells_read f P c ys).set q j ≡ (cells_read f P c xs).set q j
   bit_kept q j h k apart = go (cases_eq (page_at f P c q + j / 8) (page_at f P c p + i / 8))
     where
       go : ((page_at f P c q + j / 8 ≡ page_at f P c p + i / 8) ⊎ (page_at f P c q + j / 8 ≡ page_at f P c p + i / 8 → ⊥)) →
-          (cells_at f P c ys).set q j ≡ (cells_at f P c xs).set q j
+          (cells_read f P c ys).set q j ≡ (cells_read f P c xs).set q j
       go (inl e) =
           let n = page_bytes c in
           let block = same_block p q n (i / 8) (j / 8) (byte_within c i b) k (omega arith) in
           let place = same_place p q n (i / 8) (j / 8) (byte_within c i b) k (omega arith) in
           let other : j % 8 ≡ i % 8 → ⊥ = λ same. apart (block, omega arith) in
           subst (λ m. reads f (get_or ys m 0) (j % 8) ≡ reads f (get_or xs m 0) (j % 8)) (sym e)
-          (ap (λ z. eqb z (set_bit f)) (w.bit.others (j % 8) (omega arith) other))
+          (ap (λ z. eqb z (set_cell_bit f)) (w.bit.others (j % 8) (omega arith) other))
       go (inr ne) = ap (λ x. reads f x (j % 8)) (w.others (page_at f P c q + j / 8) ne)
 
-  pub cell_marked : Marked p i (cells_at f P c xs) (cells_at f P c ys)
+  pub cell_marked : Marked p i (cells_read f P c xs) (cells_read f P c ys)
   cell_marked =
       record {
         shape = record { pages = refl; width = refl; limit = refl };
@@ -64,7 +64,7 @@ module _ (f : Format) (P c p i : ℕ) (xs ys : List ℕ) (a : p < P) (b : i < c)
 
 -- the same of a part, whose bytes suffice
 module _ (f : Format) (l : Layout) (p i : ℕ) (xs ys : List ℕ) (e : fits f l xs ≡ true) (a : p < l.pages) (b : i < l.width)
-    (w : BitSet f (page_at f l.pages l.width p + i / 8) (i % 8) xs ys) where
+    (w : BitMarked f (page_at f l.pages l.width p + i / 8) (i % 8) xs ys) where
   pub part_marked : Marked p i (part_cells f l xs) (part_cells f l ys)
   part_marked =
       let same : fits f l ys ≡ true = ap (leb (size f l.pages l.width)) w.length ∙ e in
@@ -93,11 +93,11 @@ module _ (P c p at n k w : ℕ) (xs page count : List ℕ) (a : p < P) (room : s
   outer_same : length count ≡ k
   outer_same = ap length digits ∙ sym four
 
-  digit : (j : ℕ) → j < k → get_or ys (1 + 4 * p + j) 0 ≡ get_or ((w / 16777216 % 256) ∷ ((w / 65536 % 256) ∷ ((w / 256 % 256) ∷ ((w % 256) ∷ [])))) j 0
-  digit j h = mid_inside 0 (1 + 4 * p) k zs count outer_room outer_same j h ∙ ap (λ l. get_or l j 0) digits
+  big_endian_byte : (j : ℕ) → j < k → get_or ys (1 + 4 * p + j) 0 ≡ get_or ((w / 16777216 % 256) ∷ ((w / 65536 % 256) ∷ ((w / 256 % 256) ∷ ((w % 256) ∷ [])))) j 0
+  big_endian_byte j h = mid_inside 0 (1 + 4 * p) k zs count outer_room outer_same j h ∙ ap (λ l. get_or l j 0) digits
 
   digit_at : (j m : ℕ) → j < k → m ≡ 1 + 4 * p + j → get_or ys m 0 ≡ get_or ((w / 16777216 % 256) ∷ ((w / 65536 % 256) ∷ ((w / 256 % 256) ∷ ((w % 256) ∷ [])))) j 0
-  digit_at j m h e = ap (λ i. get_or ys i 0) e ∙ digit j h
+  digit_at j m h e = ap (λ i. get_or ys i 0) e ∙ big_endian_byte j h
 
   outside : (j : ℕ) → ((1 + 4 * p ≤ j) × (j < 5 + 4 * p) → ⊥) → get_or ys j 0 ≡ get_or zs j 0
   outside j apart = go (cases_lt j (1 + 4 * p))
@@ -144,11 +144,11 @@ ones_unset k h = not-true _ (passes (λ b. not (reads Flash 255 b)) 8 refl k h)
 -- The cells after an erase of page p.
 module _ (P c p : ℕ) (xs ys : List ℕ) (a : p < P) (w : PageErased P c p xs ys) where
   -- no bit of the page reads as set, unused ones neither
-  pub bit_erased : (i : ℕ) → i / 8 < page_bytes c → (cells_at Flash P c ys).set p i ≡ false
+  pub bit_erased : (i : ℕ) → i / 8 < page_bytes c → (cells_read Flash P c ys).set p i ≡ false
   bit_erased i h = ap (λ x. reads Flash x (i % 8)) (w.page (i / 8) h) ∙ ones_unset (i % 8) (omega arith)
 
   -- and every bit of another page is as it was
-  pub bit_spared : (q j : ℕ) → j / 8 < page_bytes c → (q ≡ p → ⊥) → (cells_at Flash P c ys).set q j ≡ (cells_at Flash P c xs).set q j
+  pub bit_spared : (q j : ℕ) → j / 8 < page_bytes c → (q ≡ p → ⊥) → (cells_read Flash P c ys).set q j ≡ (cells_read Flash P c xs).set q j
   bit_spared q j h apart =
       ap (λ x. reads Flash x (j % 8))
       (w.others (page_at Flash P c q + j / 8)
@@ -165,7 +165,7 @@ module _ (P c p : ℕ) (xs ys : List ℕ) (a : p < P) (w : PageErased P c p xs y
       w.others j (λ o. let ge = o.0 in omega arith)
       (λ o. let ge = o.0 in let lt = o.1 in apart (omega arith)))
 
-  pub page_erased : count_of xs p < 10000 → Erased p (cells_at Flash P c xs) (cells_at Flash P c ys)
+  pub page_erased : count_of xs p < 10000 → Erased p (cells_read Flash P c xs) (cells_read Flash P c ys)
   page_erased fresh =
       record {
         shape = record { pages = refl; width = refl; limit = refl };

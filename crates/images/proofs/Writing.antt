@@ -5,7 +5,7 @@ use Rattle.std.proofs.lemmas.List.FromFn.{length-map-range_with_len, get_or-map-
 use Rattle.images.specs.declared.format.Format.{Format}
 use Rattle.cells.specs.Cells.{Cells}
 use Rattle.images.specs.Image.{count_bytes, width_at, pages_at, page_bytes, size}
-use Rattle.images.specs.Written.{digit, page_byte, count_section, page_section, written}
+use Rattle.images.specs.Written.{big_endian_byte, page_byte, count_section, page_section, written}
 
 module _ (f : Format) (m : Cells) where
   abbrev head : List ℕ
@@ -15,7 +15,7 @@ module _ (f : Format) (m : Cells) where
   tail = (m.width / 256) ∷ ((m.width % 256) ∷ page_section f m)
 
   head_length : length head ≡ width_at f m.pages
-  head_length = let e = length-map-range_with_len (λ k. digit (m.wear (k / 4)) (k % 4)) 0 (count_bytes f * m.pages) in omega arith
+  head_length = let e = length-map-range_with_len (λ k. big_endian_byte (m.wear (k / 4)) (k % 4)) 0 (count_bytes f * m.pages) in omega arith
 
   tail_length : length tail ≡ 2 + m.pages * page_bytes m.width
   tail_length =
@@ -36,12 +36,12 @@ module _ (f : Format) (m : Cells) where
   unfolding written
   written_pages = refl
 
-  pub written_count : (k : ℕ) → k < count_bytes f * m.pages → get_or (written f m) (1 + k) 0 ≡ digit (m.wear (k / 4)) (k % 4)
+  pub written_count : (k : ℕ) → k < count_bytes f * m.pages → get_or (written f m) (1 + k) 0 ≡ big_endian_byte (m.wear (k / 4)) (k % 4)
   unfolding written
   written_count k h =
       let a = head_length in
       get_or_append_left head tail 0 (1 + k) (omega arith) ∙ get_or-append-add (m.pages ∷ []) (count_section f m) k 0
-      ∙ get_or-map-range_with_len (λ i. digit (m.wear (i / 4)) (i % 4)) 0 (count_bytes f * m.pages) k k 0 h (omega arith)
+      ∙ get_or-map-range_with_len (λ i. big_endian_byte (m.wear (i / 4)) (i % 4)) 0 (count_bytes f * m.pages) k k 0 h (omega arith)
 
   -- a place of the last section
   in_tail : (k n : ℕ) → n ≡ width_at f m.pages + k → get_or (written f m) n 0 ≡ get_or tail k 0

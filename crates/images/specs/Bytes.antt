@@ -10,7 +10,7 @@ use Rattle.cells.specs.Device.{cell_rows, Names}
 use Rattle.images.specs.Image.{SetsBit, page_bytes, page_at, size, count_of, part_cells}
 
 -- Bit k of the byte `at` is made to read as set; every other bit and byte is as it was.
-pub record BitSet (f : Format) (at k : ℕ) (xs ys : List ℕ) : Type 0 where
+pub record BitMarked (f : Format) (at k : ℕ) (xs ys : List ℕ) : Type 0 where
   pub length : length ys ≡ length xs
   pub bit : SetsBit f k (slice_index xs at) (slice_index ys at)
   pub others : (j : ℕ) → (j ≢ at) → slice_index ys j ≡ slice_index xs j
@@ -27,7 +27,7 @@ pub record PageErased (P c p : ℕ) (xs ys : List ℕ) : Type 0 where
 
 -- what a mark of cell i of page p does to the bytes
 abbrev pub MarksBytes : Format → Layout → ℕ → ℕ → List ℕ → List ℕ → {A : Type 0} → Result A DeviceFault → Type 0
-MarksBytes f l p i xs ys (Ok u) = BitSet f (page_at f l.pages l.width p + i / 8) (i % 8) xs ys
+MarksBytes f l p i xs ys (Ok u) = BitMarked f (page_at f l.pages l.width p + i / 8) (i % 8) xs ys
 MarksBytes f l p i xs ys (Err e) = ys ≡ xs
 
 -- what an erase of page p does to them

@@ -7,7 +7,7 @@ use Rattle.cells.specs.Cells.{Cells, Alike}
 use Rattle.cells.specs.Rows.{Row, Refused, Served}
 use Rattle.images.specs.Faults.{image_number}
 use Rattle.images.specs.Image.{limit_of, decoded}
-use Rattle.images.specs.Check.{pages_rows, cells_rows, image_rows}
+use Rattle.images.specs.Check.{page_bound_rows, width_bound_rows, image_rows}
 use Rattle.images.specs.Written.{written}
 
 -- P pages of c cells, none of them set, and no wear
@@ -15,8 +15,8 @@ abbrev pub blank : ℕ → ℕ → Cells
 blank P c = record { pages = P; width = c; set = λ p i. false; wear = λ p. 0; limit = limit_of Flash }
 
 -- the checks of the two counts, by the rows that they have in an image
-abbrev pub count_checks : ℕ → ℕ → List Row
-count_checks P c = pages_rows P ++ cells_rows c
+abbrev pub fresh_rows : ℕ → ℕ → List Row
+fresh_rows P c = page_bound_rows P ++ width_bound_rows c
 
 -- xs is the fresh flash image of P pages of c cells: it is so written, the check accepts it, and it means that
 pub record FreshImage (P c : ℕ) (xs : List ℕ) : Type 0 where
@@ -26,6 +26,6 @@ pub record FreshImage (P c : ℕ) (xs : List ℕ) : Type 0 where
 
 -- what the call that makes one answers; `bytes` are those of its answer
 abbrev pub Makes : {A : Type 0} → (A → List ℕ) → ℕ → ℕ → Result A ImageError → Type 0
-Makes bytes P c (Ok v) = Served (count_checks P c) × FreshImage P c (bytes v)
-Makes bytes P c (Err (Image e)) = Refused (count_checks P c) (image_number e)
-Makes bytes P c (Err NoMemory) = Served (count_checks P c)
+Makes bytes P c (Ok v) = Served (fresh_rows P c) × FreshImage P c (bytes v)
+Makes bytes P c (Err (Image e)) = Refused (fresh_rows P c) (image_number e)
+Makes bytes P c (Err NoMemory) = Served (fresh_rows P c)

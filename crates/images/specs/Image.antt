@@ -17,9 +17,9 @@ limit_of Fuse = 0
 limit_of Flash = 10000
 
 -- the bit that stands for a set cell
-abbrev pub set_bit : Format → ℕ
-set_bit Fuse = 1
-set_bit Flash = 0
+abbrev pub set_cell_bit : Format → ℕ
+set_cell_bit Fuse = 1
+set_cell_bit Flash = 0
 
 -- Bit k of a byte, bit 0 being the lowest.
 abbrev pub bit : ℕ → ℕ → ℕ
@@ -27,7 +27,7 @@ bit x k = x / 2 ^ k % 2
 
 -- whether it reads as a set cell
 abbrev pub reads : Format → ℕ → ℕ → Bool
-reads f x k = bit x k == set_bit f
+reads f x k = bit x k == set_cell_bit f
 
 -- y is the byte x with bit k made to read as set
 pub record SetsBit (f : Format) (k x y : ℕ) : Type 0 where
@@ -72,8 +72,8 @@ wear_of Fuse xs p = 0
 wear_of Flash xs p = min 10000 (count_of xs p)
 
 -- The meaning of the bytes xs as P pages of c cells: cell i of a page is bit (i mod 8) of its byte (i div 8).
-abbrev pub cells_at : Format → ℕ → ℕ → List ℕ → Cells
-cells_at f P c xs =
+abbrev pub cells_read : Format → ℕ → ℕ → List ℕ → Cells
+cells_read f P c xs =
     record {
       pages = P;
       width = c;
@@ -88,13 +88,12 @@ fits f l xs = nat_le (size f l.pages l.width) (length xs)
 
 -- What a part of a layout over the bytes xs means: nothing at all unless they suffice.
 abbrev pub part_cells : Format → Layout → List ℕ → Cells
-part_cells f l xs = cells_at f (cond (fits f l xs) l.pages 0) (cond (fits f l xs) l.width 0) xs
+part_cells f l xs = cells_read f (cond (fits f l xs) l.pages 0) (cond (fits f l xs) l.width 0) xs
 
 -- What the bytes of an image mean, by the counts that it shows.
 abbrev pub decoded : Format → List ℕ → Cells
-decoded f xs = cells_at f (pages_of xs) (width_of f xs) xs
+decoded f xs = cells_read f (pages_of xs) (width_of f xs) xs
 
--- a part is within the bounds of every array, whatever its bytes
 held_below : (b : Bool) (x n : ℕ) → x ≤ n → cond b x 0 ≤ n
 held_below true x n h = h
 held_below false x n h = omega arith
@@ -103,6 +102,7 @@ wear_below : (f : Format) (xs : List ℕ) (p : ℕ) → wear_of f xs p ≤ limit
 wear_below Fuse xs p = omega arith
 wear_below Flash xs p = omega arith
 
+-- a part is within the bounds of every array, whatever its bytes
 pub part_bounded : (f : Format) (l : Layout) (xs : List ℕ) → Bounded (part_cells f l xs)
 part_bounded f l xs =
     record {

@@ -5,20 +5,20 @@ use Rattle.images.specs.declared.format.Format.{Format}
 use Rattle.cells.specs.Cells.{Cells, Alike}
 use Rattle.cells.specs.Rows.{Served}
 use Rattle.images.specs.Check.{image_rows}
-use Rattle.images.specs.Image.{count_bytes, limit_of, set_bit, page_bytes, decoded}
+use Rattle.images.specs.Image.{count_bytes, limit_of, set_cell_bit, page_bytes, decoded}
 
 -- the meanings that an image can hold
 pub record Writable (f : Format) (m : Cells) : Type 0 where
-  pub some : 1 ≤ m.pages
-  pub few : m.pages ≤ 64
-  pub wide : 1 ≤ m.width
-  pub narrow : m.width ≤ 1024
+  pub pages_least : 1 ≤ m.pages
+  pub pages_most : m.pages ≤ 64
+  pub width_least : 1 ≤ m.width
+  pub width_most : m.width ≤ 1024
   pub limit : m.limit ≡ limit_of f
   pub wear : (p : ℕ) → p < m.pages → m.wear p ≤ limit_of f
 
 -- byte j, of four with the highest first, of the number w
-abbrev pub digit : ℕ → ℕ → ℕ
-digit w j = w / 256 ^ (3 - j) % 256
+abbrev pub big_endian_byte : ℕ → ℕ → ℕ
+big_endian_byte w j = w / 256 ^ (3 - j) % 256
 
 -- the byte of eight bits, bit 0 being the lowest
 abbrev pub byte_of : (ℕ → ℕ) → ℕ
@@ -26,7 +26,7 @@ byte_of b = b 0 + 2 * b 1 + 4 * b 2 + 8 * b 3 + 16 * b 4 + 32 * b 5 + 64 * b 6 +
 
 -- the bit of a cell
 abbrev pub bit_for : Format → Bool → ℕ
-bit_for f s = cond s (set_bit f) (1 - set_bit f)
+bit_for f s = cond s (set_cell_bit f) (1 - set_cell_bit f)
 
 -- byte j of page p: eight cells, of which those past the width are written as unset
 unfoldable pub page_byte : Format → Cells → ℕ → ℕ → ℕ
@@ -34,7 +34,7 @@ page_byte f m p j = byte_of (λ k. bit_for f (nat_lt (8 * j + k) m.width && m.se
 
 -- the wear counts, one page after the other, where the format has them
 abbrev pub count_section : Format → Cells → List ℕ
-count_section f m = map (λ k. digit (m.wear (k / 4)) (k % 4)) (range_with_len 0 (count_bytes f * m.pages))
+count_section f m = map (λ k. big_endian_byte (m.wear (k / 4)) (k % 4)) (range_with_len 0 (count_bytes f * m.pages))
 
 -- the pages, one after the other
 abbrev pub page_section : Format → Cells → List ℕ
@@ -46,18 +46,18 @@ unfoldable pub written : Format → Cells → List ℕ
 written f m = (m.pages ∷ count_section f m) ++ ((m.width / 256) ∷ ((m.width % 256) ∷ page_section f m))
 
 -- the bytes are the writing-out of the meaning that they are read as, and an image can hold it
-abbrev pub OwnWriting : Format → List ℕ → Type 0
-OwnWriting f xs = Writable f (decoded f xs) × (xs ≡ written f (decoded f xs))
+abbrev pub RoundTrips : Format → List ℕ → Type 0
+RoundTrips f xs = Writable f (decoded f xs) × (xs ≡ written f (decoded f xs))
 
--- An image is accepted exactly when it is the writing-out of a meaning: where it is, of the one that it is read as.
+-- An accepted image is the writing-out of the meaning that it is read as; a refused one is that of no writable meaning.
 abbrev pub Exact : Format → List ℕ → {A B : Type 0} → Result A B → Type 0
-Exact f xs (Ok l) = OwnWriting f xs
+Exact f xs (Ok l) = RoundTrips f xs
 Exact f xs (Err e) = (m : Cells) → Writable f m → xs ≢ written f m
 
--- Whatever meaning the bytes are the writing-out of, they are read back as it.
+-- Bytes that are the writing-out of a writable meaning are read back as one that agrees with it.
 abbrev pub ReadBack : Format → List ℕ → Type 0
 ReadBack f xs = (m : Cells) → Writable f m → xs ≡ written f m → Alike m (decoded f xs)
 
 -- The bytes of a good image are the writing-out of its cells.
 abbrev pub WrittenOut : Format → List ℕ → Type 0
-WrittenOut f xs = Served (image_rows f xs) → OwnWriting f xs
+WrittenOut f xs = Served (image_rows f xs) → RoundTrips f xs

@@ -2,7 +2,7 @@
 // Each byte is read a bounded number of times, whatever the bytes are.
 ghost use Rattle.std.specs.Prelude.{◌≡◌, ℕ, ◌<◌, ◌≤◌, length, Decides};
 ghost use Rattle.images.specs.Image.{size, pages_of, width_of};
-ghost use Rattle.images.specs.Check.{first_rows, counts_rows, wear_rows, width_rows, body_rows, Stray, Checks, ReadsAs, Passes};
+ghost use Rattle.images.specs.Check.{page_count_rows, wear_counts_below, wear_rows, width_rows, body_rows, Stray, Checks, ReadsAs, ChecksStep};
 ghost use Rattle.images.specs.Written.{Exact, ReadBack, WrittenOut};
 
 use crate::fault::ImageFault;
@@ -49,7 +49,7 @@ impl Format {
     // The wear counts, where the format has any.
     fn check_wear(self, image: &[u8], pages: u8) -> Result<(), ImageFault>
         requires { pages ≡ pages_of image.now }
-        ensures { Passes (wear_rows self image.now) (λ _. Unit {0}) result }
+        ensures { ChecksStep (wear_rows self image.now) (λ _. Unit {0}) result }
     {
         match self {
             Format::Fuse => Ok(()),
@@ -59,7 +59,7 @@ impl Format {
 
     fn read_width(self, image: &[u8], pages: u8) -> Result<usize, ImageFault>
         requires { pages ≡ pages_of image.now }
-        ensures { Passes (width_rows self image.now) (λ c. (c ≡ width_of self image.now) × (0 < c) × (c ≤ 1024)) result }
+        ensures { ChecksStep (width_rows self image.now) (λ c. (c ≡ width_of self image.now) × (0 < c) × (c ≤ 1024)) result }
     {
         let at = 1 + self.count_bytes() * usize::from(pages);
         if image.len() < at + 2 {
@@ -73,7 +73,7 @@ impl Format {
     // The pages, and what follows them. The format, the image and what is known of its layout go beside each other
     // through these functions; a struct of them would hold a borrow and gain a field after each.
     fn check_body(self, image: &[u8], layout: Layout) -> Result<(), ImageFault>
-        ensures { Passes (body_rows self layout.pages layout.width image.now) (λ _. Unit {0}) result }
+        ensures { ChecksStep (body_rows self layout.pages layout.width image.now) (λ _. Unit {0}) result }
     {
         let size = layout.size(self);
         if image.len() < size {
@@ -110,7 +110,7 @@ impl Format {
 
 // The count of pages.
 fn read_pages(image: &[u8]) -> Result<u8, ImageFault>
-    ensures { Passes (first_rows image.now) (λ p. (p ≡ pages_of image.now) × (0 < p) × (p ≤ 64)) result }
+    ensures { ChecksStep (page_count_rows image.now) (λ p. (p ≡ pages_of image.now) × (0 < p) × (p ≤ 64)) result }
 {
     let [pages, ..] = image else {
         return Err(ImageFault::Short);
@@ -121,7 +121,7 @@ fn read_pages(image: &[u8]) -> Result<u8, ImageFault>
 
 // The wear counts of a flash image, each one's bytes and then its row. A loop, since two refusals take turns.
 fn check_counts(image: &[u8], pages: u8) -> Result<(), ImageFault>
-    ensures { Passes (counts_rows image.now pages) (λ _. Unit {0}) result }
+    ensures { ChecksStep (wear_counts_below image.now pages) (λ _. Unit {0}) result }
 {
     for page in 0..usize::from(pages) {
         if image.len() < 5 + 4 * page {

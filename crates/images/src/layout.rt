@@ -19,7 +19,7 @@ pub struct Layout {
 
 impl Layout {
     ghost use Rattle.std.specs.Prelude.{◌<◌};
-    ghost use Rattle.images.specs.Check.{pages_rows, cells_rows, Passes};
+    ghost use Rattle.images.specs.Check.{page_bound_rows, width_bound_rows, ChecksStep};
 
     // no pages and no width
     pub(crate) const NONE: Layout = Layout { pages: 0, width: 0 };
@@ -27,7 +27,7 @@ impl Layout {
     // Whether an image can have so many pages. The two counts have a check each, since an image has other rows between;
     // one function for both would be handed the bound and the fault of each.
     pub fn check_pages(pages: usize) -> Result<(), ImageFault>
-        ensures { Passes (pages_rows pages) (λ _. (0 < pages) × (pages ≤ 64)) result }
+        ensures { ChecksStep (page_bound_rows pages) (λ _. (0 < pages) × (pages ≤ 64)) result }
     {
         if pages == 0 || pages > MAX_PAGES {
             return Err(ImageFault::Pages);
@@ -37,7 +37,7 @@ impl Layout {
 
     // Whether its pages can have so many cells.
     pub fn check_width(width: usize) -> Result<(), ImageFault>
-        ensures { Passes (cells_rows width) (λ _. (0 < width) × (width ≤ 1024)) result }
+        ensures { ChecksStep (width_bound_rows width) (λ _. (0 < width) × (width ≤ 1024)) result }
     {
         if width == 0 || width > MAX_WIDTH {
             return Err(ImageFault::Width);

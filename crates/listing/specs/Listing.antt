@@ -21,7 +21,8 @@ page_report m p = record { wear = m.wear p; set = size_below (m.set p) m.width }
 abbrev pub page_reports : Cells → List PageReport
 page_reports m = map (page_report m) (range_with_len 0 m.pages)
 
--- The listing of the flash image xs says what the image means; a refused image is refused by the first row that holds.
+-- The width of the flash image xs, and the wear and the number of set cells of each of its pages; or the first row that
+-- holds refuses it.
 abbrev pub Lists : List ℕ → Result Listing ImageError → Type 0
 Lists xs (Ok l) =
     Served (image_rows Flash xs) × (vec_len l.reports ≡ (decoded Flash xs).pages) × (l.width ≡ (decoded Flash xs).width)

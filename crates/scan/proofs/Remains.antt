@@ -7,7 +7,7 @@ use Rattle.std.proofs.lemmas.List.Sums.{fails_before_first, prefix_len-le-length
 use Rattle.std.proofs.lemmas.List.Splits.{slice_split_first, slice_split_none}
 use Rattle.std.proofs.lemmas.Bool.{cases_lt, lt-ltb, le-ltb}
 use Rattle.scan.specs.Rest.{reach}
-use Rattle.scan.specs.Pieces.{cut, left_of}
+use Rattle.scan.specs.Pieces.{cut, pieces_in}
 
 module _ (b : ℕ) (xs : List ℕ) where
   abbrev is_b : ℕ → Bool
@@ -30,7 +30,7 @@ module _ (b : ℕ) (xs : List ℕ) where
   -- The first piece ends at the first separator, and `get` gives the bytes after that, or none where the piece is the last.
   first_taken :
       (r : Option (Bor (List ℕ))) → PartBy (λ (x : Bor (List ℕ)). x.now) xs (first_end + 1) (length xs) r →
-      cut b xs ≡ take first_end xs ∷ left_of b r
+      cut b xs ≡ take first_end xs ∷ pieces_in b r
   unfolding cut
   first_taken (Some rest) part =
       let found = part.0 in
@@ -48,9 +48,9 @@ module _ (b : ℕ) (xs : List ℕ) where
 -- the same, where the end is known by its place
 pub left_first :
     (b : ℕ) (xs : List ℕ) (end : ℕ) (r : Option (Bor (List ℕ))) → end ≡ position_or_len (λ x. eqb x b) xs →
-    PartBy (λ (x : Bor (List ℕ)). x.now) xs (end + 1) (length xs) r → cut b xs ≡ take end xs ∷ left_of b r
+    PartBy (λ (x : Bor (List ℕ)). x.now) xs (end + 1) (length xs) r → cut b xs ≡ take end xs ∷ pieces_in b r
 left_first b xs end r is part =
-    subst (λ e. cut b xs ≡ take e xs ∷ left_of b r) (sym is)
+    subst (λ e. cut b xs ≡ take e xs ∷ pieces_in b r) (sym is)
     (first_taken b xs r (subst (λ e. PartBy (λ (x : Bor (List ℕ)). x.now) xs (e + 1) (length xs) r) is part))
 
 -- what is left reaches as far as before

@@ -6,7 +6,7 @@ use Rattle.std.proofs.lemmas.Fmt.{decimal-digits_value, decimal_nonempty, decima
 use Rattle.std.proofs.lemmas.Str.Parse.{IsNumeralModel, numerals_by_fold, tells_by_index, digits_value_short}
 use Rattle.std.proofs.lemmas.Bool.{cases_lt}
 use Rattle.scan.specs.Pieces.{Lacks}
-use Rattle.scan.specs.Numbers.{Spells, Reads, AllDigits, value_after, AddsUp}
+use Rattle.scan.specs.Numbers.{Spells, Reads, AllDigits, value_after, ReadsDigits}
 
 -- digits and their value are those of the library
 own : IsNumeralModel AllDigits (value_after 0)
@@ -45,7 +45,7 @@ spelled_first w n (few, is) first = go (cases_lt 0 n)
 
 -- a word that is as long as a number, with no zero in front of others, is a number if it has digits only
 pub reads_digits :
-    (w : List ℕ) (r : Option ℕ) → AddsUp w r → 0 < length w → length w ≤ 9 → (get_or w 0 0 ≡ 48 → length w ≡ 1) → Reads w r
+    (w : List ℕ) (r : Option ℕ) → ReadsDigits w r → 0 < length w → length w ≤ 9 → (get_or w 0 0 ≡ 48 → length w ≡ 1) → Reads w r
 reads_digits w (Some n) (digits, is) some short first = rw is (spells_value w digits some short first)
 reads_digits w None other some short first = λ n spells. other (spelled_digits w n spells)
 

@@ -22,6 +22,6 @@ value_after n [] = n
 value_after n (c ∷ cs) = value_after (10 * n + (c - 48)) cs
 
 -- The number that digits write, leading zeros or not, or none where a byte is no digit.
-abbrev pub AddsUp : List ℕ → Option ℕ → Type 0
-AddsUp ds (Some n) = AllDigits ds × (n ≡ value_after 0 ds)
-AddsUp ds None = AllDigits ds → ⊥
+abbrev pub ReadsDigits : List ℕ → Option ℕ → Type 0
+ReadsDigits ds (Some n) = AllDigits ds × (n ≡ value_after 0 ds)
+ReadsDigits ds None = AllDigits ds → ⊥

@@ -29,23 +29,23 @@ abbrev pub CutLaw : Type 0
 CutLaw = (b : ℕ) (xs : List ℕ) → Cuts b xs (cut b xs) × ((ps : List (List ℕ)) → Cuts b xs ps → ps ≡ cut b xs)
 
 -- the pieces of the bytes that are left, and none where nothing is
-abbrev pub left_of : ℕ → Option (Bor (List ℕ)) → List (List ℕ)
-left_of b (Some rest) = cut b rest.now
-left_of b None = []
+abbrev pub pieces_in : ℕ → Option (Bor (List ℕ)) → List (List ℕ)
+pieces_in b (Some rest) = cut b rest.now
+pieces_in b None = []
 
 -- the pieces that are still to be taken
-abbrev pub left : Pieces → List (List ℕ)
-left s = left_of s.separator s.rest
+abbrev pub pieces_left : Pieces → List (List ℕ)
+pieces_left s = pieces_in s.separator s.rest
 
 -- The first piece left is taken, with its place; the next one begins after the separator that ends it.
 pub record Takes (s : Pieces) (p : Piece) (t : Pieces) : Type 0 where
-  pub first : left s ≡ p.bytes.now ∷ left t
+  pub first : pieces_left s ≡ p.bytes.now ∷ pieces_left t
   pub place : p.at ≡ s.at
   pub next : t.at ≡ s.at + length p.bytes.now + 1
   pub reach : reach t.at t.rest ≡ reach s.at s.rest
   pub separator : t.separator ≡ s.separator
 
 -- A piece is taken, or none is left and nothing changes.
-abbrev pub Nexts : Pieces → Option Piece → Pieces → Type 0
-Nexts s (Some p) t = Takes s p t
-Nexts s None t = (left s ≡ []) × (t ≡ s)
+abbrev pub NextPiece : Pieces → Option Piece → Pieces → Type 0
+NextPiece s (Some p) t = Takes s p t
+NextPiece s None t = (pieces_left s ≡ []) × (t ≡ s)

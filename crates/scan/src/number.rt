@@ -1,7 +1,7 @@
 // Numbers written in decimal: one to nine digits, and no leading zero but in "0" itself.
 // Any other word is no number.
 ghost use Rattle.std.specs.Prelude.{◌≤◌, length};
-ghost use Rattle.scan.specs.Numbers.{Reads, AddsUp};
+ghost use Rattle.scan.specs.Numbers.{Reads, ReadsDigits};
 
 // the most digits that a number has
 const MAX_DIGITS: usize = 9;
@@ -23,7 +23,7 @@ pub fn read_number(word: &[u8]) -> Option<u32>
 // closure of a fold would not know it.
 fn read_digits(digits: &[u8]) -> Option<u32>
     requires { length digits.now ≤ 9 }
-    ensures { AddsUp digits.now result }
+    ensures { ReadsDigits digits.now result }
 {
     let mut number: u32 = 0;
     for digit in digits {

@@ -22,11 +22,11 @@ pub struct Pieces<'a> {
 
 impl<'a> Pieces<'a> {
     ghost use Rattle.std.specs.Prelude.{◌+◌, [], length};
-    ghost use Rattle.scan.specs.Pieces.{cut, CutLaw, left};
+    ghost use Rattle.scan.specs.Pieces.{cut, CutLaw, pieces_left};
 
     // All the pieces are left.
     pub fn of(bytes: &'a [u8], separator: u8) -> Pieces<'a>
-        ensures left { left result ≡ cut separator bytes.now }
+        ensures left { pieces_left result ≡ cut separator bytes.now }
         ensures reach { reach result.at result.rest ≡ length bytes.now + 1 }
         ensures at { result.at ≡ 0 }
         ensures separator { result.separator ≡ separator }
@@ -41,8 +41,10 @@ impl<'a> Pieces<'a> {
 
     // No piece is left.
     pub fn none(separator: u8) -> Pieces<'a>
-        ensures left { left result ≡ [] }
+        ensures left { pieces_left result ≡ [] }
         ensures reach { reach result.at result.rest ≡ 0 }
+        ensures at { result.at ≡ 0 }
+        ensures separator { result.separator ≡ separator }
     {
         Pieces {
             rest: None,
@@ -55,13 +57,13 @@ impl<'a> Pieces<'a> {
 // The next piece, or none where all are taken.
 impl<'a> Iterator for Pieces<'a> {
     ghost use Rattle.std.specs.Iterator.{item_count};
-    ghost use Rattle.scan.specs.Pieces.{left, Nexts};
+    ghost use Rattle.scan.specs.Pieces.{pieces_left, NextPiece};
 
     type Item = Piece<'a>;
 
-    ghost next_gives = { Nexts };
+    ghost next_gives = { NextPiece };
 
-    ghost remaining = { item_count left };
+    ghost remaining = { item_count pieces_left };
 
     fn next(&mut self) -> Option<Piece<'a>> {
         let rest = self.rest?;

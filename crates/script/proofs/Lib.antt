@@ -1,5 +1,5 @@
 pub mod Numbering
-pub mod Telling
+pub mod Executing
 pub mod Reading
 pub mod Progress
 pub mod Starting

@@ -5,7 +5,7 @@ use Rattle.coset.specs.Code.{Code}
 use Rattle.calls.specs.Calls.{State, Obeys}
 use Rattle.calls.specs.History.{Event, Linked, Every}
 use Rattle.script.specs.declared.reply.Reply.{Reply}
-use Rattle.script.specs.Tells.{LineTells, state_after, Tells, Course}
+use Rattle.script.specs.Execution.{ExecutesLine, state_after, ExecutesLines, Execution}
 
 -- Of all the lines those before the ones left were answered from the state `first` on, and led to the state `now`.
 pub record Progress (c : Code) (first : State) (all left : List (List ℕ × ℕ)) (now : State) (head : Reply) (out : List Reply) : Type 0 where
@@ -13,7 +13,7 @@ pub record Progress (c : Code) (first : State) (all left : List (List ℕ × ℕ
   pub others : List Reply
   pub whole : all ≡ done ++ left
   pub prints : out ≡ head ∷ others
-  pub course : Course c (λ h. Tells done first h others) first now
+  pub execution : Execution c (λ h. ExecutesLines done first h others) first now
 
 linked_both : (h i : List Event) (s t u : State) → Linked s h t → Linked t i u → Linked s (h ++ i) u
 linked_both [] i s t u first second = subst (λ z. Linked z i u) first second
@@ -24,34 +24,34 @@ every_both P [] i first second = second
 every_both P (e ∷ h) i first second = (first.0, every_both P h i first.1 second)
 
 -- one line more
-tells_push :
-    (ls : List (List ℕ × ℕ)) (s t : State) (h i : List Event) (out : List Reply) (l : List ℕ × ℕ) (r : Reply) → Tells ls s h out → Linked s h t →
-    LineTells l.1 l.0 t i r → Tells (ls ++ (l ∷ [])) s (h ++ i) (out ++ (r ∷ []))
+executes_push :
+    (ls : List (List ℕ × ℕ)) (s t : State) (h i : List Event) (out : List Reply) (l : List ℕ × ℕ) (r : Reply) → ExecutesLines ls s h out → Linked s h t →
+    ExecutesLine l.1 l.0 t i r → ExecutesLines (ls ++ (l ∷ [])) s (h ++ i) (out ++ (r ∷ []))
 unfolding state_after
-tells_push [] s t h i out l r tells linked line =
-    let none : h ≡ [] = tells.0 in
+executes_push [] s t h i out l r executes linked line =
+    let none : h ≡ [] = executes.0 in
     let same : s ≡ t = sym (subst (λ z. Linked s z t) none linked) in (
       i,
       [],
       r,
       [],
       ap (λ z. z ++ i) none ∙ sym (append-nil i),
-      ap (λ z. z ++ (r ∷ [])) tells.1,
-      subst (λ z. LineTells l.1 l.0 z i r) (sym same) line,
+      ap (λ z. z ++ (r ∷ [])) executes.1,
+      subst (λ z. ExecutesLine l.1 l.0 z i r) (sym same) line,
       (refl, refl),
     )
-tells_push (q ∷ ls) s t h i out l r tells linked line =
-    let now = tells.0 in
-    let later = tells.1 in
-    let parts : Linked s (now ++ later) t = subst (λ z. Linked s z t) tells.4 linked in (
+executes_push (q ∷ ls) s t h i out l r executes linked line =
+    let now = executes.0 in
+    let later = executes.1 in
+    let parts : Linked s (now ++ later) t = subst (λ z. Linked s z t) executes.4 linked in (
       now,
       later ++ i,
-      tells.2,
-      tells.3 ++ (r ∷ []),
-      ap (λ z. z ++ i) tells.4 ∙ append_assoc now later i,
-      ap (λ z. z ++ (r ∷ [])) tells.5,
-      tells.6,
-      tells_push ls (state_after s now) t later i tells.3 l r tells.7 (linked_rest now later s t parts) line,
+      executes.2,
+      executes.3 ++ (r ∷ []),
+      ap (λ z. z ++ i) executes.4 ∙ append_assoc now later i,
+      ap (λ z. z ++ (r ∷ [])) executes.5,
+      executes.6,
+      executes_push ls (state_after s now) t later i executes.3 l r executes.7 (linked_rest now later s t parts) line,
     )
   where
     linked_rest : (h i : List Event) (s t : State) → Linked s (h ++ i) t → Linked (state_after s h) i t
@@ -65,25 +65,25 @@ progress_none c s all head out is =
       others = [];
       whole = refl;
       prints = is;
-      course = record { history = []; linked = refl; obeys = tt; tells = (refl, refl) };
+      execution = record { history = []; linked = refl; obeys = tt; satisfies = (refl, refl) };
     }
 
 pub progress_more :
     (c : Code) (first now next : State) (all left : List (List ℕ × ℕ)) (l : List ℕ × ℕ) (rest : List (List ℕ × ℕ)) (head r : Reply) (out more : List Reply) →
-    Progress c first all left now head out → left ≡ l ∷ rest → more ≡ out ++ (r ∷ []) → Course c (λ h. LineTells l.1 l.0 now h r) now next →
+    Progress c first all left now head out → left ≡ l ∷ rest → more ≡ out ++ (r ∷ []) → Execution c (λ h. ExecutesLine l.1 l.0 now h r) now next →
     Progress c first all rest next head more
 progress_more c first now next all left l rest head r out more earlier taken pushed line =
-    let before = earlier.course in
+    let before = earlier.execution in
     record {
       done = earlier.done ++ (l ∷ []);
       others = earlier.others ++ (r ∷ []);
       whole = earlier.whole ∙ ap (λ z. earlier.done ++ z) taken ∙ sym (append_assoc earlier.done (l ∷ []) rest);
       prints = pushed ∙ ap (λ z. z ++ (r ∷ [])) earlier.prints;
-      course = record {
+      execution = record {
         history = before.history ++ line.history;
         linked = linked_both before.history line.history first now next before.linked line.linked;
         obeys = every_both (λ e. Obeys c e.call e.answer e.before e.after) before.history line.history before.obeys line.obeys;
-        tells =
-            tells_push earlier.done first now before.history line.history earlier.others l r before.tells before.linked line.tells;
+        satisfies =
+            executes_push earlier.done first now before.history line.history earlier.others l r before.satisfies before.linked line.satisfies;
       };
     }

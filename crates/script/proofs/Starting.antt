@@ -11,7 +11,7 @@ use Rattle.images.specs.declared.layout.Layout.{Layout}
 use Rattle.images.specs.Faults.{image_number}
 use Rattle.images.specs.Image.{part_cells}
 use Rattle.images.specs.Check.{ReadsAs}
-use Rattle.images.specs.Fresh.{blank as fresh_cells, count_checks, FreshImage, Makes as MakesImage}
+use Rattle.images.specs.Fresh.{blank as fresh_cells, fresh_rows, FreshImage, Makes as MakesImage}
 use Rattle.store.specs.declared.making.MakingFault.{MakingFault}
 use Rattle.store.specs.declared.making.MakingFault.TheVariants.{Unusable, Cells, Narrow}
 use Rattle.store.specs.Making.{making_number, Makes}
@@ -26,19 +26,19 @@ use Rattle.commands.specs.declared.group_word.GroupWord.{GroupWord}
 use Rattle.commands.specs.declared.word.Number.{Number}
 use Rattle.commands.specs.Groups.{word_group}
 use Rattle.group.specs.Group.{unusable}
-use Rattle.commands.specs.Spots.{spot, Stopped, Passed}
+use Rattle.commands.specs.PlacedRows.{placed_row, RefusedAt, NotRefused}
 use Rattle.commands.specs.Lawful.{word_lawful}
 use Rattle.scan.specs.Pieces.{cut}
-use Rattle.commands.specs.Orders.{head_spots, Headings}
+use Rattle.commands.specs.Orders.{head_rows, IsHeading}
 use Rattle.script.specs.declared.fault.HeadPlace.{HeadPlace}
-use Rattle.script.specs.declared.fault.Stop.{Stop}
-use Rattle.script.specs.declared.fault.Stop.TheVariants.{Fault, NoMemory}
+use Rattle.script.specs.declared.fault.ScriptError.{ScriptError}
+use Rattle.script.specs.declared.fault.ScriptError.TheVariants.{Fault, NoMemory}
 use Rattle.script.specs.declared.reply.Reply.{Reply}
 use Rattle.script.specs.declared.reply.Reply.TheVariants.{Refused as RefusedLine}
-use Rattle.script.specs.Stops.{image_column, making_column, image_stop, making_stop}
+use Rattle.script.specs.HeadErrors.{image_column, making_column, image_error, making_error}
 use Rattle.script.specs.Lines.{numbered}
-use Rattle.script.specs.Tells.{refusal, Tells, Answered}
-use Rattle.script.specs.Script.{make_spots, MadeStore, HeadingStops, Opens, Starts, Prints, Answers}
+use Rattle.script.specs.Execution.{refusal, ExecutesLines, Answered}
+use Rattle.script.specs.Script.{heading_rows, MadeStore, HeadingFails, OpensStore, Starts, Prints, Answers}
 
 module _ (h : Head GroupWord Number) where
   at_pages : (e : ImageFault) → image_number e ≡ 11 → image_column h e ≡ h.pages.column
@@ -58,10 +58,10 @@ module _ (h : Head GroupWord Number) where
   at_width Wear n = absurd (omega arith)
 
   -- a count that no image can have
-  counts_stopped : (e : ImageFault) → Refused (count_checks h.pages.value h.width.value) (image_number e) → Stopped (make_spots h) (image_number e) (image_column h e)
-  counts_stopped e (inl (holds, number)) = inl (holds, number, at_pages e number)
-  counts_stopped e (inr (no11, inl (holds, number))) = inr (no11, inl (holds, number, at_width e number))
-  counts_stopped e (inr (no11, inr (no12, never))) = absurd never
+  counts_refused : (e : ImageFault) → Refused (fresh_rows h.pages.value h.width.value) (image_number e) → RefusedAt (heading_rows h) (image_number e) (image_column h e)
+  counts_refused e (inl (holds, number)) = inl (holds, number, at_pages e number)
+  counts_refused e (inr (no11, inl (holds, number))) = inr (no11, inl (holds, number, at_width e number))
+  counts_refused e (inr (no11, inr (no12, never))) = absurd never
 
   at_group : (f : MakingFault) → making_number f ≡ 30 → making_column h f ≡ 3
   at_group Unusable n = refl
@@ -78,24 +78,24 @@ module _ (h : Head GroupWord Number) where
   at_narrow Cells n = absurd (omega arith)
   at_narrow Narrow n = refl
 
-  module _ (m : Meaning) (width : m.width ≡ h.width.value) (counts : Served (count_checks h.pages.value h.width.value)) where
+  module _ (m : Meaning) (width : m.width ≡ h.width.value) (counts : Served (fresh_rows h.pages.value h.width.value)) where
     -- a making that is refused
-    making_stopped : (f : MakingFault) → Refused (making_rows (word_group h.group) m h.n.value) (making_number f) → Stopped (make_spots h) (making_number f) (making_column h f)
-    making_stopped f refused = inr (counts.0, inr (counts.1.0, go refused))
+    making_refused : (f : MakingFault) → Refused (making_rows (word_group h.group) m h.n.value) (making_number f) → RefusedAt (heading_rows h) (making_number f) (making_column h f)
+    making_refused f refused = inr (counts.0, inr (counts.1.0, go refused))
       where
         go :
             Refused (making_rows (word_group h.group) m h.n.value) (making_number f) →
-            Stopped
-            (spot 30 3 ((word_group h.group).order ≡ unusable) ∷
-            (spot 31 h.n.column ((h.n.value ≡ 0) ⊎ (63 < h.n.value)) ∷ (spot 32 h.n.column (h.width.value < h.n.value) ∷ []))) (making_number f) (making_column h f)
+            RefusedAt
+            (placed_row 30 3 ((word_group h.group).order ≡ unusable) ∷
+            (placed_row 31 h.n.column ((h.n.value ≡ 0) ⊎ (63 < h.n.value)) ∷ (placed_row 32 h.n.column (h.width.value < h.n.value) ∷ []))) (making_number f) (making_column h f)
         go (inl (holds, number)) = inl (holds, number, at_group f number)
         go (inr (no30, inl (holds, number))) = inr (no30, inl (holds, number, at_cells f number))
         go (inr (no30, inr (no31, inl (holds, number)))) = inr (no30, inr (no31, inl (subst (λ w. w < h.n.value) width holds, number, at_narrow f number)))
         go (inr (no30, inr (no31, inr (no32, never)))) = absurd never
 
     -- one that is accepted
-    making_passed : Served (making_rows (word_group h.group) m h.n.value) → Passed (make_spots h)
-    making_passed served =
+    making_accepted : Served (making_rows (word_group h.group) m h.n.value) → NotRefused (heading_rows h)
+    making_accepted served =
         (counts.0, (counts.1.0, (served.0, (served.1.0, ((λ narrow. served.1.1.0 (subst (λ w. w < h.n.value) (sym width) narrow)), tt)))))
 
     -- the store that was made and the lines that it answered
@@ -103,22 +103,22 @@ module _ (h : Head GroupWord Number) where
         (lines : List (List ℕ × ℕ)) (out : List Reply) → Alike (fresh_cells h.pages.value h.width.value) m → Served (making_rows (word_group h.group) m h.n.value) →
         Answered (word_group h.group) h.n.value (state_of m blank) lines out → MadeStore h lines out
     store_made lines out fresh served answered =
-        let course = answered.course in
+        let execution = answered.execution in
         let p =
-        promised (word_group h.group) (word_lawful h.group) h.n.value (state_of m blank) course.history answered.last
-        (record { changes = omega arith; renewals = omega arith; marked = omega arith }) course.linked course.obeys in
+        promised (word_group h.group) (word_lawful h.group) h.n.value (state_of m blank) execution.history answered.last
+        (record { changes = omega arith; renewals = omega arith; marked = omega arith }) execution.linked execution.obeys in
         record {
-          passed = making_passed served;
+          accepted = making_accepted served;
           first = state_of m blank;
           last = answered.last;
           fresh = fresh;
-          uncounted = refl;
-          calls = map (λ (e : Event). e.call) course.history;
-          answers = map (λ (e : Event). e.answer) course.history;
+          nothing_counted = refl;
+          calls = map (λ (e : Event). e.call) execution.history;
+          answers = map (λ (e : Event). e.answer) execution.history;
           promise = p.0;
           others = answered.others;
           prints = answered.prints;
-          tells = subst (λ z. Tells lines (state_of m blank) z answered.others) (sym p.1) course.tells;
+          executes = subst (λ z. ExecutesLines lines (state_of m blank) z answered.others) (sym p.1) execution.satisfies;
         }
 
 -- a part over a fresh image has no cell set
@@ -129,37 +129,37 @@ fresh_part P c image bytes xs l fresh is reads same =
     subst (λ ys. Alike (fresh_cells P c) (part_cells Flash l ys)) (sym same)
     (subst (Alike (fresh_cells P c)) (sym (reads.accepted whole.accepted)) whole.means)
 
--- what stopped the making of the image, or of the store
+-- what refused the making of the image, or of the store
 module _ (p : HeadPlace) where
-  pub image_stopped :
+  pub image_refused :
       {B : Type 0} (bytes : B → List ℕ) (r : Result B ImageError) (e : HeadPlace × ImageError) → located p r ≡ Err e → MakesImage bytes p.heading.pages.value p.heading.width.value r →
-      HeadingStops p.line p.heading (image_stop e.0.line e.0.heading e.1)
-  image_stopped bytes (Ok v) e is makes = absurd (let z : ◌≡◌ {A = ℕ} 0 1 = cc in omega arith)
-  image_stopped bytes (Err f) e is makes =
+      HeadingFails p.line p.heading (image_error e.0.line e.0.heading e.1)
+  image_refused bytes (Ok v) e is makes = absurd (let z : ◌≡◌ {A = ℕ} 0 1 = cc in omega arith)
+  image_refused bytes (Err f) e is makes =
       let pair : (p, f) ≡ e = cc in
-      subst (λ (d : HeadPlace × ImageError). HeadingStops p.line p.heading (image_stop d.0.line d.0.heading d.1)) pair (go f makes)
+      subst (λ (d : HeadPlace × ImageError). HeadingFails p.line p.heading (image_error d.0.line d.0.heading d.1)) pair (go f makes)
     where
-      go : (f : ImageError) → MakesImage bytes p.heading.pages.value p.heading.width.value (Err f) → HeadingStops p.line p.heading (image_stop p.line p.heading f)
-      go (ImageRefused d) refused = (counts_stopped p.heading d refused, refl)
+      go : (f : ImageError) → MakesImage bytes p.heading.pages.value p.heading.width.value (Err f) → HeadingFails p.line p.heading (image_error p.line p.heading f)
+      go (ImageRefused d) refused = (counts_refused p.heading d refused, refl)
       go NoRoom refused = tt
 
   pub image_made :
       {B : Type 0} (bytes : B → List ℕ) (r : Result B ImageError) (v : B) → located p r ≡ Ok v → MakesImage bytes p.heading.pages.value p.heading.width.value r →
-      Served (count_checks p.heading.pages.value p.heading.width.value) × FreshImage p.heading.pages.value p.heading.width.value (bytes v)
+      Served (fresh_rows p.heading.pages.value p.heading.width.value) × FreshImage p.heading.pages.value p.heading.width.value (bytes v)
   image_made bytes (Ok w) v is makes =
       let same : w ≡ v = cc in (makes.0, subst (λ z. FreshImage p.heading.pages.value p.heading.width.value (bytes z)) same makes.1)
   image_made bytes (Err f) v is makes = absurd (let z : ◌≡◌ {A = ℕ} 0 1 = cc in omega arith)
 
   module _ (m : Meaning) (fresh : Alike (fresh_cells p.heading.pages.value p.heading.width.value) m)
-      (counts : Served (count_checks p.heading.pages.value p.heading.width.value)) where
-    pub store_stopped :
+      (counts : Served (fresh_rows p.heading.pages.value p.heading.width.value)) where
+    pub store_refused :
         {B : Type 0} (r : Result B MakingFault) (e : HeadPlace × MakingFault) → located p r ≡ Err e → Makes (word_group p.heading.group) m p.heading.n.value r →
-        HeadingStops p.line p.heading (making_stop e.0.line e.0.heading e.1)
-    store_stopped (Ok u) e is makes = absurd (let z : ◌≡◌ {A = ℕ} 0 1 = cc in omega arith)
-    store_stopped (Err f) e is makes =
+        HeadingFails p.line p.heading (making_error e.0.line e.0.heading e.1)
+    store_refused (Ok u) e is makes = absurd (let z : ◌≡◌ {A = ℕ} 0 1 = cc in omega arith)
+    store_refused (Err f) e is makes =
         let pair : (p, f) ≡ e = cc in
-        subst (λ (d : HeadPlace × MakingFault). HeadingStops p.line p.heading (making_stop d.0.line d.0.heading d.1)) pair
-        (making_stopped p.heading m fresh.shape.width counts f makes, refl)
+        subst (λ (d : HeadPlace × MakingFault). HeadingFails p.line p.heading (making_error d.0.line d.0.heading d.1)) pair
+        (making_refused p.heading m fresh.shape.width counts f makes, refl)
 
     pub store_opened :
         {B : Type 0} (r : Result B MakingFault) (u : B) (lines : List (List ℕ × ℕ)) (out : List Reply) → located p r ≡ Ok u → Makes (word_group p.heading.group) m p.heading.n.value r →
@@ -174,23 +174,23 @@ module _ (script : List ℕ) (l : List ℕ × ℕ) (rest : List (List ℕ × ℕ
 
   -- a head that is well written
   pub head_read :
-      {A : Type 0} (items : A → List Reply) (h : Head GroupWord Number) (r : Result A Stop) → Passed (head_spots l.0) × Headings l.0 h → Opens items l.1 h rest r →
+      {A : Type 0} (items : A → List Reply) (h : Head GroupWord Number) (r : Result A ScriptError) → NotRefused (head_rows l.0) × IsHeading l.0 h → OpensStore items l.1 h rest r →
       Answers items script r
   head_read items h (Ok v) read opens =
-      started (items v) (inr (record { heading = h; passed = read.0; is = read.1; tells = inr opens }))
+      started (items v) (inr (record { heading = h; accepted = read.0; is = read.1; outcome = inr opens }))
   head_read items h (Err (Fault f)) read opens =
       started (RefusedLine f ∷ []) (
       inr (
       record {
         heading = h;
-        passed = read.0;
+        accepted = read.0;
         is = read.1;
-        tells =
+        outcome =
             inl (
             record {
               cause = f.cause;
               column = f.column;
-              stopped = opens.0;
+              refused = opens.0;
               prints = ap (λ k. refusal f.cause k f.column ∷ []) opens.1;
             }
             );

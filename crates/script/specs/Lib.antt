@@ -1,6 +1,6 @@
 pub mod Lines
 pub mod Faults
 pub mod Replies
-pub mod Tells
-pub mod Stops
+pub mod Execution
+pub mod HeadErrors
 pub mod Script

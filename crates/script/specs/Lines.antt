@@ -1,6 +1,6 @@
 -- The lines of a script: those that are not empty, each with its number. Assumes nothing.
 use Rattle.std.specs.Prelude.{ℕ, ◌+◌, List, [], ◌∷◌}
-use Rattle.scan.specs.Pieces.{left}
+use Rattle.scan.specs.Pieces.{pieces_left}
 use Rattle.script.specs.declared.lines.Line.{Line}
 use Rattle.script.specs.declared.lines.Lines.{Lines}
 
@@ -16,4 +16,4 @@ line_of l = (l.bytes.now, l.number)
 
 -- the lines that are still to be taken
 abbrev pub lines_left : Lines → List (List ℕ × ℕ)
-lines_left s = numbered (s.number + 1) (left s.pieces)
+lines_left s = numbered (s.number + 1) (pieces_left s.pieces)

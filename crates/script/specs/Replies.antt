@@ -1,4 +1,4 @@
--- What a script prints: one reply for each line that is not empty, and its bytes. Assumes nothing.
+-- What a script prints: its replies, and the bytes of each. Assumes nothing.
 use Rattle.std.specs.Prelude.{ℕ, cond, List, ◌++◌, codes, decimal, ◌==◌}
 use Rattle.std.specs.List.{flat_map}
 use Rattle.calls.specs.declared.ledger.Ledger.{Ledger}

@@ -6,7 +6,7 @@ ghost use Rattle.calls.specs.Calls.{state_of};
 ghost use Rattle.calls.specs.History.{RefusedFull};
 ghost use Rattle.coset.specs.Codes.{code_of};
 ghost use Rattle.store.specs.Keeps.{Keeps, state};
-ghost use Rattle.script.specs.Tells.{refused, OrderTells, LineTells, Course, spoken};
+ghost use Rattle.script.specs.Execution.{fault_of_call, ExecutesOrder, ExecutesLine, Execution, reply_of};
 
 use crate::fault::{OrderPlace, ScriptFault};
 use crate::lines::Line;
@@ -21,14 +21,14 @@ use store::store::Store;
 // both would hold a borrow for these alone.
 pub(crate) fn answer_line<G: Group, A: Erasable>(store: &mut Store<G, A>, line: Line) -> Reply
     ensures keeps { Keeps A.CellArray.held A.CellArray.intact store.old store.new }
-    ensures course { Course (code_of G.Group.meaning store.old.code) (λ h. LineTells line.entry.number line.entry.bytes.now (state A.CellArray.cells store.old) h result) (state A.CellArray.cells store.old) (state A.CellArray.cells store.new) }
+    ensures execution { Execution (code_of G.Group.meaning store.old.code) (λ h. ExecutesLine line.entry.number line.entry.bytes.now (state A.CellArray.cells store.old) h result) (state A.CellArray.cells store.old) (state A.CellArray.cells store.new) }
 {
     obey(store, line).unwrap_or_else(|fault| Reply::Refused { fault })
 }
 
 fn obey<G: Group, A: Erasable>(store: &mut Store<G, A>, line: Line) -> Result<Reply, ScriptFault>
     ensures keeps { Keeps A.CellArray.held A.CellArray.intact store.old store.new }
-    ensures course { Course (code_of G.Group.meaning store.old.code) (λ h. LineTells line.entry.number line.entry.bytes.now (state A.CellArray.cells store.old) h (spoken result)) (state A.CellArray.cells store.old) (state A.CellArray.cells store.new) }
+    ensures execution { Execution (code_of G.Group.meaning store.old.code) (λ h. ExecutesLine line.entry.number line.entry.bytes.now (state A.CellArray.cells store.old) h (reply_of result)) (state A.CellArray.cells store.old) (state A.CellArray.cells store.new) }
 {
     let order = Order::read(line.bytes).located_at(line.number)?;
     carry_out(store, line.number, order)
@@ -41,7 +41,7 @@ fn carry_out<G: Group, A: Erasable>(
     order: Order,
 ) -> Result<Reply, ScriptFault>
     ensures keeps { Keeps A.CellArray.held A.CellArray.intact store.old store.new }
-    ensures course { Course (code_of G.Group.meaning store.old.code) (λ h. OrderTells line order (state A.CellArray.cells store.old) h (spoken result)) (state A.CellArray.cells store.old) (state A.CellArray.cells store.new) }
+    ensures execution { Execution (code_of G.Group.meaning store.old.code) (λ h. ExecutesOrder line order (state A.CellArray.cells store.old) h (reply_of result)) (state A.CellArray.cells store.old) (state A.CellArray.cells store.new) }
 {
     match order {
         Order::Put { record, value } => {
@@ -89,7 +89,7 @@ fn replied<F: FnOnce(u32) -> Reply>(
     reply: F,
 ) -> Result<Reply, ScriptFault>
     requires { F.IsAlwaysCallable reply }
-    ensures { MatchResult answer (λ v. IsOkAnd result (F.post reply v)) (λ f. result ≡ Err (refused place f)) }
+    ensures { MatchResult answer (λ v. IsOkAnd result (F.post reply v)) (λ f. result ≡ Err (fault_of_call place f)) }
 {
     let value = answer.located_at(place)?;
     Ok(reply(value))

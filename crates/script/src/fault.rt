@@ -4,9 +4,9 @@ ghost use Rattle.std.specs.Prelude.{◌≡◌, Some};
 ghost use Rattle.script.specs.declared.fault.Cause.TheVariants.{Line, Image, Making, Store};
 ghost use Rattle.script.specs.Faults.{cause_number, cause_letter};
 ghost use Rattle.script.specs.Replies.{fault_shown};
-ghost use Rattle.script.specs.declared.fault.Stop.TheVariants.{Fault, NoMemory};
-ghost use Rattle.script.specs.Tells.{refused};
-ghost use Rattle.script.specs.Stops.{image_stop, making_stop};
+ghost use Rattle.script.specs.declared.fault.ScriptError.TheVariants.{Fault, NoMemory};
+ghost use Rattle.script.specs.Execution.{fault_of_call, place_of, place_of_get};
+ghost use Rattle.script.specs.HeadErrors.{image_error, making_error};
 
 use calls::fault::StoreFault;
 use commands::fault::{LineFault, Refusal};
@@ -94,7 +94,7 @@ pub struct OrderPlace {
 
 impl OrderPlace {
     pub(crate) fn of(line: usize, record: Number, value: Number) -> OrderPlace
-        ensures { result ≡ record { line = line; «record» = «record».column; value = value.column } }
+        ensures { result ≡ place_of line «record» value }
     {
         OrderPlace {
             line,
@@ -105,7 +105,7 @@ impl OrderPlace {
 
     // Where a get stands. It has no value and is never refused for one, so 1 is a column that nothing names.
     pub(crate) fn of_get(line: usize, record: Number) -> OrderPlace
-        ensures { result ≡ record { line = line; «record» = «record».column; value = 1 } }
+        ensures { result ≡ place_of_get line «record» }
     {
         OrderPlace {
             line,
@@ -117,7 +117,7 @@ impl OrderPlace {
 
 // A refused call, with the place of its order.
 impl From<(OrderPlace, StoreFault)> for ScriptFault {
-    ghost from_gives = { λ e r. r ≡ refused e.0 e.1 };
+    ghost from_gives = { λ e r. r ≡ fault_of_call e.0 e.1 };
 
     fn from(refusal: (OrderPlace, StoreFault)) -> ScriptFault {
         let (place, fault) = refusal;
@@ -137,25 +137,25 @@ impl From<(OrderPlace, StoreFault)> for ScriptFault {
 // Why a script ends at its head: a refusal, or want of memory. It has the shape of `ImageError`, but is no instance of
 // an enum of that crate: for a type of another crate this one could not have the conversions below.
 #[derive(Clone, Copy)]
-pub(crate) enum Stop {
+pub(crate) enum ScriptError {
     Fault(ScriptFault),
     NoMemory,
 }
 
-impl From<AllocError> for Stop {
+impl From<AllocError> for ScriptError {
     ghost from_gives = { λ _ r. r ≡ NoMemory };
 
-    fn from(_: AllocError) -> Stop {
-        Stop::NoMemory
+    fn from(_: AllocError) -> ScriptError {
+        ScriptError::NoMemory
     }
 }
 
 // A head that is not well written, with its line.
-impl From<(usize, Refusal)> for Stop {
+impl From<(usize, Refusal)> for ScriptError {
     ghost from_gives = { λ e r. r ≡ Fault (record { cause = Line e.1.fault; line = e.0; column = e.1.column }) };
 
-    fn from(refusal: (usize, Refusal)) -> Stop {
-        Stop::Fault(ScriptFault::from(refusal))
+    fn from(refusal: (usize, Refusal)) -> ScriptError {
+        ScriptError::Fault(ScriptFault::from(refusal))
     }
 }
 
@@ -167,20 +167,20 @@ pub(crate) struct HeadPlace {
 }
 
 // Counts that no image can have, named by their words.
-impl From<(HeadPlace, ImageError)> for Stop {
-    ghost from_gives = { λ e r. r ≡ image_stop e.0.line e.0.heading e.1 };
+impl From<(HeadPlace, ImageError)> for ScriptError {
+    ghost from_gives = { λ e r. r ≡ image_error e.0.line e.0.heading e.1 };
 
-    fn from(refusal: (HeadPlace, ImageError)) -> Stop {
+    fn from(refusal: (HeadPlace, ImageError)) -> ScriptError {
         let (place, error) = refusal;
         let ImageError::Image(fault) = error else {
-            return Stop::NoMemory;
+            return ScriptError::NoMemory;
         };
         let column = match fault {
             ImageFault::Pages => place.heading.pages.column,
             ImageFault::Width => place.heading.width.column,
             _ => 1,
         };
-        Stop::Fault(ScriptFault {
+        ScriptError::Fault(ScriptFault {
             cause: Cause::Image(fault),
             line: place.line,
             column,
@@ -189,16 +189,16 @@ impl From<(HeadPlace, ImageError)> for Stop {
 }
 
 // A making that was refused, by the group or by the cells to a record.
-impl From<(HeadPlace, MakingFault)> for Stop {
-    ghost from_gives = { λ e r. r ≡ making_stop e.0.line e.0.heading e.1 };
+impl From<(HeadPlace, MakingFault)> for ScriptError {
+    ghost from_gives = { λ e r. r ≡ making_error e.0.line e.0.heading e.1 };
 
-    fn from(refusal: (HeadPlace, MakingFault)) -> Stop {
+    fn from(refusal: (HeadPlace, MakingFault)) -> ScriptError {
         let (place, fault) = refusal;
         let column = match fault {
             MakingFault::Unusable => 3,
             MakingFault::Cells | MakingFault::Narrow => place.heading.n.column,
         };
-        Stop::Fault(ScriptFault {
+        ScriptError::Fault(ScriptFault {
             cause: Cause::Making(fault),
             line: place.line,
             column,

@@ -1,4 +1,4 @@
-// Replies: what a script prints of each line that is not empty.
+// Replies: what a script prints.
 // A reply is one line of text.
 ghost use Rattle.std.specs.Prelude.{◌≡◌, IfOk, Some, string_bytes};
 ghost use Rattle.script.specs.Replies.{shown as line_shown, printed};

@@ -4,7 +4,7 @@ ghost use Rattle.std.specs.Prelude.{IfOk};
 ghost use Rattle.calls.specs.Calls.{state_of};
 ghost use Rattle.calls.specs.Ledger.{blank};
 ghost use Rattle.script.specs.Lines.{lines_left};
-ghost use Rattle.script.specs.Tells.{Answered};
+ghost use Rattle.script.specs.Execution.{Answered};
 ghost use Rattle.store.specs.Keeps.{state};
 
 use crate::answer::answer_line;

@@ -5,7 +5,7 @@ ghost use Rattle.script.specs.declared.reply.Reply.{Reply};
 ghost use Rattle.script.specs.Replies.{printed};
 ghost use Rattle.script.specs.Script.{Prints};
 
-use crate::fault::Stop;
+use crate::fault::ScriptError;
 use crate::reply::{Reply, print_all};
 use crate::start::start;
 use std::alloc::{AllocError, Global};
@@ -24,7 +24,7 @@ pub fn answer_script(heap: Global, script: &[u8]) -> Result<Vec<Reply>, AllocErr
 {
     match start(heap, script) {
         Ok(replies) => Ok(replies),
-        Err(Stop::NoMemory) => Err(AllocError),
-        Err(Stop::Fault(fault)) => Ok(vec![in heap; Reply::Refused { fault }]?),
+        Err(ScriptError::NoMemory) => Err(AllocError),
+        Err(ScriptError::Fault(fault)) => Ok(vec![in heap; Reply::Refused { fault }]?),
     }
 }

@@ -2,11 +2,11 @@
 // Where the head is refused, or there is none, the script ends there.
 ghost use Rattle.std.specs.Prelude.{◌≡◌, vec_items};
 ghost use Rattle.script.specs.declared.fault.Cause.TheVariants.{Line};
-ghost use Rattle.script.specs.declared.fault.Stop.TheVariants.{Fault};
+ghost use Rattle.script.specs.declared.fault.ScriptError.TheVariants.{Fault};
 ghost use Rattle.script.specs.Lines.{lines_left};
-ghost use Rattle.script.specs.Script.{Opens, Answers};
+ghost use Rattle.script.specs.Script.{OpensStore, Answers};
 
-use crate::fault::{Cause, HeadPlace, ScriptFault, Stop};
+use crate::fault::{Cause, HeadPlace, ScriptError, ScriptFault};
 use crate::lines::Lines;
 use crate::reply::Reply;
 use crate::rest::answer_rest;
@@ -23,7 +23,7 @@ use store::making::check_making;
 const MAX_SCRIPT: usize = 65_535;
 
 // Reads the head, and answers the lines after it.
-pub(crate) fn start(heap: Global, script: &[u8]) -> Result<Vec<Reply>, Stop>
+pub(crate) fn start(heap: Global, script: &[u8]) -> Result<Vec<Reply>, ScriptError>
     ensures { Answers vec_items script.now result }
 {
     if script.len() > MAX_SCRIPT {
@@ -42,8 +42,8 @@ pub(crate) fn start(heap: Global, script: &[u8]) -> Result<Vec<Reply>, Stop>
 }
 
 // Makes the part and the store of a heading, and answers the lines that are left.
-fn open_store(heap: Global, place: HeadPlace, lines: Lines) -> Result<Vec<Reply>, Stop>
-    ensures { Opens vec_items place.line place.heading (lines_left lines.entry) result }
+fn open_store(heap: Global, place: HeadPlace, lines: Lines) -> Result<Vec<Reply>, ScriptError>
+    ensures { OpensStore vec_items place.line place.heading (lines_left lines.entry) result }
 {
     let Heading {
         group,
@@ -63,10 +63,10 @@ fn open_store(heap: Global, place: HeadPlace, lines: Lines) -> Result<Vec<Reply>
 }
 
 // A refusal of the script as a whole, at line 1 and column 1.
-fn at_the_start(fault: LineFault) -> Stop
+fn at_the_start(fault: LineFault) -> ScriptError
     ensures { result ≡ Fault (record { cause = Line fault; line = 1; column = 1 }) }
 {
-    Stop::Fault(ScriptFault {
+    ScriptError::Fault(ScriptFault {
         cause: Cause::Line(fault),
         line: 1,
         column: 1,

@@ -10,7 +10,7 @@ use Rattle.coset.specs.Code.{Code, every, sum_of, Unreachable, Plan}
 use Rattle.coset.specs.CellSets.{members_of}
 use Rattle.coset.specs.declared.cellset.CellSet.{CellSet}
 use Rattle.calls.specs.Calls.{sizes}
-use Rattle.store.specs.Steps.{cells_from, SetsCells, nth_place, target, PlansOfPage, PageWritten}
+use Rattle.store.specs.Steps.{set_from, SetsCells, nth_place, target, PlansOfPage, PageWritten}
 use Rattle.store.proofs.Setting.{shaped_then}
 
 -- the value of a set of cells is within reach from empty
@@ -22,9 +22,9 @@ module _ (c : Code) (m : Cells) (page named x : ℕ) where
   pub out_of_reach : (r : ℕ) → Unreachable c every (target c m page named x r) → Unreachable c every x
   out_of_reach r none = go (eqb r named) none
     where
-      go : (b : Bool) → Unreachable c every (cond b x (sum_of c (cells_from m (nth_place c page r)))) → Unreachable c every x
+      go : (b : Bool) → Unreachable c every (cond b x (sum_of c (set_from m (nth_place c page r)))) → Unreachable c every x
       go true u = u
-      go false u = absurd (own_reach c (cells_from m (nth_place c page r)) u)
+      go false u = absurd (own_reach c (set_from m (nth_place c page r)) u)
 
   -- one plan more
   pub page_more :

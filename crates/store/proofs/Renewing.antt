@@ -19,7 +19,7 @@ use Rattle.calls.specs.Records.{makes, per_page, records, page_of, free, value}
 use Rattle.calls.specs.Calls.{state_of, Renewed, renewed_value, rows, Obeys}
 use Rattle.calls.proofs.Geometry.{There, there, number_of, page_back, place_back}
 use Rattle.store.specs.declared.place.Found.{Found}
-use Rattle.store.specs.Steps.{Known, cells_from, nth_place, target, PlansOfPage, PageWritten}
+use Rattle.store.specs.Steps.{FoundRecord, set_from, nth_place, target, PlansOfPage, PageWritten}
 use Rattle.store.proofs.Setting.{shaped_then}
 use Rattle.store.proofs.Serving.{unreachable_free, open_cells, open_free}
 
@@ -53,7 +53,7 @@ records_to_page c m k h = go (makes c m) h
     go true lt = refl
     go false lt = absurd (omega arith)
 
-module _ (c : Code) (m : Cells) (k : ℕ) (found : Found) (known : Known c m k found) (x : ℕ) (element : x < c.group.order) where
+module _ (c : Code) (m : Cells) (k : ℕ) (found : Found) (known : FoundRecord c m k found) (x : ℕ) (element : x < c.group.order) where
   abbrev opened : Cellset
   opened = open_cells c m k found known
 
@@ -92,7 +92,7 @@ module _ (c : Code) (m : Cells) (k : ℕ) (found : Found) (known : Known c m k f
           let r = k % per_page c m in
           let p = planned.each (k % per_page c m) d₀ t.place in
           far (members_of (get_or plans (k % per_page c m) d₀))
-          (subst (λ b. Plan c every (cond b x (sum_of c (cells_from m (nth_place c (page_of c m k) (k % per_page c m))))) (members_of (get_or plans (k % per_page c m) d₀)))
+          (subst (λ b. Plan c every (cond b x (sum_of c (set_from m (nth_place c (page_of c m k) (k % per_page c m))))) (members_of (get_or plans (k % per_page c m) d₀)))
           (eq-eqb (k % per_page c m) (k % per_page c m) refl) p).reaches
 
       -- the page is worn

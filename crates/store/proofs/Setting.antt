@@ -5,7 +5,7 @@ use Rattle.cells.specs.Cells.{Cells, Shaped, Cell}
 use Rattle.cells.specs.Sets.{Cellset}
 use Rattle.cells.specs.Device.{Marked}
 use Rattle.store.specs.declared.place.Place.{Place}
-use Rattle.store.specs.Steps.{Inside, cells_from, SetsCells}
+use Rattle.store.specs.Steps.{Inside, set_from, SetsCells}
 
 -- the cells of s below k
 abbrev pub first_of_set : Cellset → ℕ → Cellset
@@ -23,7 +23,7 @@ pub sets_agree : (n : ℕ) (at : Place) (s t : Cellset) (m m' : Cells) → ((i :
 sets_agree n at s t m m' same sets =
     record {
       shape = sets.shape;
-      here = λ i h. sets.here i h ∙ ap (λ b. cells_from m at i || b) (same i h);
+      here = λ i h. sets.here i h ∙ ap (λ b. set_from m at i || b) (same i h);
       others = sets.others;
       wear = sets.wear;
     }
@@ -36,7 +36,7 @@ pub sets_none : (n : ℕ) (at : Place) (s : Cellset) (m : Cells) → SetsCells n
 sets_none n at s m =
     record {
       shape = shaped_same m;
-      here = λ i h. or_false (cells_from m at i) ∙ ap (λ b. cells_from m at i || (b && s i)) (sym (le-ltb i 0 (omega arith)));
+      here = λ i h. or_false (set_from m at i) ∙ ap (λ b. set_from m at i || (b && s i)) (sym (le-ltb i 0 (omega arith)));
       others = λ p j cell outside. refl;
       wear = λ p h. refl;
     }
@@ -72,15 +72,15 @@ sets_with n at s k m m' m'' inside lt member sets marked =
     cell' : (p j : ℕ) → Cell m p j → Cell m' p j
     cell' p j cell = record { page = rw sets.shape.pages cell.page; cell = rw sets.shape.width cell.cell }
 
-    here : (i : ℕ) → i < n → ((i ≡ k) ⊎ (i ≡ k → ⊥)) → cells_from m'' at i ≡ (cells_from m at i || (ltb i (k + 1) && s i))
+    here : (i : ℕ) → i < n → ((i ≡ k) ⊎ (i ≡ k → ⊥)) → set_from m'' at i ≡ (set_from m at i || (ltb i (k + 1) && s i))
     here i h (inl e) =
-        ap (cells_from m'' at) e ∙ marked.here
-        ∙ sym (or_right (cells_from m at i) (ltb i (k + 1) && s i) (ap₂ ◌&&◌ (lt-ltb i (k + 1) (omega arith)) (ap s e ∙ member)))
+        ap (set_from m'' at) e ∙ marked.here
+        ∙ sym (or_right (set_from m at i) (ltb i (k + 1) && s i) (ap₂ ◌&&◌ (lt-ltb i (k + 1) (omega arith)) (ap s e ∙ member)))
     here i h (inr ne) =
         marked.others at.page (at.first + i) (cell' at.page (at.first + i) (record { page = inside.page; cell = let w = inside.cells in omega arith }))
         (λ o. ne (let e = o.1 in omega arith))
         ∙ sets.here i h
-        ∙ ap (λ b. cells_from m at i || (b && s i)) (go (cases_lt i k))
+        ∙ ap (λ b. set_from m at i || (b && s i)) (go (cases_lt i k))
       where
         go : ((i < k) ⊎ (k ≤ i)) → ltb i k ≡ ltb i (k + 1)
         go (inl below) = lt-ltb i k below ∙ sym (lt-ltb i (k + 1) (omega arith))

@@ -5,7 +5,7 @@ ghost use Rattle.coset.specs.Code.{code};
 ghost use Rattle.calls.specs.declared.call.Call.{Call as CallMeaning};
 ghost use Rattle.calls.specs.Calls.{state_of, Obeys};
 ghost use Rattle.calls.specs.Promise.{Promise, WithinCeiling};
-ghost use Rattle.calls.specs.Runs.{as_call};
+ghost use Rattle.calls.specs.Accesses.{as_call};
 ghost use Rattle.coset.specs.Codes.{code_of};
 ghost use Rattle.store.specs.Keeps.{Keeps, state};
 

@@ -5,7 +5,7 @@ ghost use Rattle.cells.specs.Device.{Kept, Marked};
 ghost use Rattle.cells.specs.Sets.{size_below};
 ghost use Rattle.coset.specs.CellSets.{members_of};
 ghost use Rattle.coset.specs.Code.{sum_of};
-ghost use Rattle.store.specs.Steps.{Inside, Places, Finds, FindsFor, cells_from, SetsCells};
+ghost use Rattle.store.specs.Steps.{Inside, LiesAt, Finds, FindsFor, set_from, SetsCells};
 ghost use Rattle.coset.specs.Codes.{code_of};
 
 use crate::place::{Found, Place};
@@ -38,7 +38,7 @@ impl<G: Group, A: CellArray> Store<G, A> {
     }
 
     pub(crate) fn place(&self, record: usize) -> Result<Place, StoreFault>
-        ensures { Places (code_of G.Group.meaning self.now.code) (A.CellArray.cells self.now.array) «record» result }
+        ensures { LiesAt (code_of G.Group.meaning self.now.code) (A.CellArray.cells self.now.array) «record» result }
     {
         if record >= self.records() {
             return Err(StoreFault::NoRecord { record });
@@ -55,7 +55,7 @@ impl<G: Group, A: CellArray> Store<G, A> {
     // a place together, and `write` alters the array.
     fn read(&self, at: Place) -> CellSet
         requires { Inside (A.CellArray.cells self.now.array) self.now.code.cells at }
-        ensures { (i : ℕ) → i < self.now.code.cells → members_of result i ≡ cells_from (A.CellArray.cells self.now.array) at i }
+        ensures { (i : ℕ) → i < self.now.code.cells → members_of result i ≡ set_from (A.CellArray.cells self.now.array) at i }
     {
         let mut set = CellSet::empty();
         for cell in 0..self.code.cells {
@@ -67,7 +67,7 @@ impl<G: Group, A: CellArray> Store<G, A> {
     // The value of a record.
     pub(crate) fn value_at(&self, at: Place) -> u32
         requires { Inside (A.CellArray.cells self.now.array) self.now.code.cells at }
-        ensures { result ≡ sum_of (code_of G.Group.meaning self.now.code) (cells_from (A.CellArray.cells self.now.array) at) }
+        ensures { result ≡ sum_of (code_of G.Group.meaning self.now.code) (set_from (A.CellArray.cells self.now.array) at) }
     {
         self.code.label_sum(&self.read(at))
     }

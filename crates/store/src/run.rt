@@ -7,7 +7,7 @@ ghost use Rattle.calls.specs.declared.ledger.Ledger.{Ledger as Counts};
 ghost use Rattle.coset.specs.Codes.{code_of};
 ghost use Rattle.calls.specs.Ledger.{blank};
 ghost use Rattle.calls.specs.Promise.{Promise};
-ghost use Rattle.calls.specs.Runs.{as_call};
+ghost use Rattle.calls.specs.Accesses.{as_call};
 
 use crate::list::Request;
 use crate::store::Store;

@@ -32,7 +32,7 @@ returns-then-pages-eq0 g c =
       refused =
           image_refused group c.args.n c.args.call c.args.image.now _
           (subst (λ bytes. Refused (image_rows Flash bytes) (image_number c.unwrap_err-fault.result)) over.bytes refused);
-      bytes = c.image-1.given.1.1 (sym over.lent) ∙ over.bytes;
+      unchanged = c.image-1.given.1.1 (sym over.lent) ∙ over.bytes;
     }
 
 pub returns-in_err-check_making : goal.returns-in_err-check_making
@@ -51,7 +51,7 @@ returns-in_err-check_making g c =
       refused =
           making_refused group c.args.n c.args.call xs good _
           (subst (λ m. Refused (making_rows group m c.args.n) (making_number c.in_err-check_making.field-0.0)) means c.in_err-check_making.ensures);
-      bytes = c.in_err-check_making.image-in-Break-1-own.given.1.1 (sym over.lent) ∙ over.bytes;
+      unchanged = c.in_err-check_making.image-in-Break-1-own.given.1.1 (sym over.lent) ∙ over.bytes;
     })
 
 pub returns-in_err-run_call : goal.returns-in_err-run_call

@@ -1,6 +1,6 @@
 use Rattle.cells.specs.Rows.{Served}
-use Rattle.images.specs.Check.{counts_rows}
+use Rattle.images.specs.Check.{wear_counts_below}
 use Rattle.images.proofs.check.check_counts.Given as goal
 
 abbrev pub invariant-loop-page : goal.invariant-loop-page
-invariant-loop-page l = Served (counts_rows l.image l.page)
+invariant-loop-page l = Served (wear_counts_below l.image l.page)

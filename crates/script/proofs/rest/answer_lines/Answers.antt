@@ -5,7 +5,7 @@ use Rattle.calls.specs.Calls.{state_of}
 use Rattle.calls.specs.Records.{records}
 use Rattle.script.specs.declared.reply.Reply.TheVariants.{Made}
 use Rattle.script.specs.Lines.{line_of, lines_left}
-use Rattle.script.specs.Tells.{LineTells, Course}
+use Rattle.script.specs.Execution.{ExecutesLine, Execution}
 use Rattle.script.proofs.Progress.{progress_none, progress_more}
 use Rattle.script.proofs.rest.answer_lines.Goals as goal
 
@@ -29,5 +29,5 @@ loop-line-preserved g c =
       progress_more co first now next (lines_left c.into_iter-line-iterator.result) (lines_left c.loop-line.line-iterator) l (lines_left c.next.new.self)
           (Made (records co (g.A.CellArray.cells c.args.store.now.array))) c.answer_line.result (vec_items c.loop-line.replies) (vec_items c.push-in-loop-line.new.self)
           inv.1 c.in-Some.ensures.steps c.in_ok-push-2.ensures.items
-          (subst (λ k. Course (code_of g.G.Group.meaning k) (λ h. LineTells l.1 l.0 now h c.answer_line.result) now next) inv.0 answered.course),
+          (subst (λ k. Execution (code_of g.G.Group.meaning k) (λ h. ExecutesLine l.1 l.0 now h c.answer_line.result) now next) inv.0 answered.execution),
     )

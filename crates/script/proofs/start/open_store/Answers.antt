@@ -3,14 +3,14 @@ use Rattle.std.proofs.lemmas.Result.{err_from_is_err_and}
 use Rattle.images.specs.declared.format.Format.TheVariants.{Flash}
 use Rattle.images.specs.Image.{part_cells}
 use Rattle.script.specs.Lines.{lines_left}
-use Rattle.script.proofs.Starting.{fresh_part, image_stopped, image_made, store_stopped, store_opened}
+use Rattle.script.proofs.Starting.{fresh_part, image_refused, image_made, store_refused, store_opened}
 use Rattle.script.proofs.start.open_store.Goals as goal
 
 pub returns-in_err-image : goal.returns-in_err-image
 returns-in_err-image c =
     let p = err_from_is_err_and c.from_residual.result c.from_residual.ensures.1 in
     rw (p.1, p.2)
-    (image_stopped c.args.place vec_items c.fresh_flash-fresh.result c.in_err-image.field-0.0
+    (image_refused c.args.place vec_items c.fresh_flash-fresh.result c.in_err-image.field-0.0
     (sym c.located_at.ensures ∙ c.in_err-image.was) (rw (← c.index.ensures, ← c.index-2.ensures) c.fresh_flash-fresh.ensures))
 
 pub returns-in_err-located_at : goal.returns-in_err-located_at
@@ -24,7 +24,7 @@ returns-in_err-located_at c =
     c.over-part.result.layout image.1 c.deref_mut.ensures.value c.over-part.ensures.meaning c.over-part.ensures.bytes in
     let p = err_from_is_err_and c.from_residual-in_err-located_at.result c.from_residual-in_err-located_at.ensures.1 in
     rw (p.1, p.2)
-    (store_stopped place (part_cells Flash c.over-part.result.layout c.over-part.result.image.now) fresh image.0 c.check_making.result
+    (store_refused place (part_cells Flash c.over-part.result.layout c.over-part.result.image.now) fresh image.0 c.check_making.result
     c.in_err-located_at.field-0.0 (sym c.located_at-2.ensures ∙ c.in_err-located_at.was) (rw (← c.index-3.ensures) c.check_making.ensures))
 
 pub returns : goal.returns

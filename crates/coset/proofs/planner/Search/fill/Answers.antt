@@ -2,7 +2,7 @@ use Rattle.std.proofs.Common.{◌≡◌, ℕ, ◌+◌, ◌-◌, Bool, min, [], l
 use Rattle.std.proofs.lemmas.List.{length-set, get_or-set_same}
 use Rattle.group.specs.Group.{In}
 use Rattle.coset.specs.CellSets.{members_of}
-use Rattle.coset.specs.Plans.{fewest_at, turn}
+use Rattle.coset.specs.Plans.{fewest_at, entry_from_next}
 use Rattle.coset.specs.Code.{label_of}
 use Rattle.coset.proofs.Rows.{first_row, none_reached, row_put, filled_more}
 use Rattle.coset.proofs.planner.Search.fill.Goals as goal
@@ -17,7 +17,7 @@ loop-cell-init g c =
       length-set c.args.table.now.rows self.cells first_row ∙ long,
       record {
         last = λ s h. ap (λ r. get_or r s 0) (get_or-set_same c.args.table.now.rows self.cells first_row [] (omega arith)) ∙ none_reached s (omega arith);
-        turns = λ i s from below h. absurd (omega arith);
+        entries = λ i s from below h. absurd (omega arith);
       },
     )
 
@@ -32,8 +32,8 @@ loop-cell-preserved g c =
     let i = c.loop-cell.cell - 1 in
     let same : c.loop-cell.cell ≡ i + 1 = omega arith in
     let long = c.loop-cell.invariant.0 in
-    let by : Bool → ℕ → ℕ = λ b s. turn group (label_of group i) b (fewest_at before (i + 1)) s in
-    let turns : (s : ℕ) → In group s → get_or c.if-contains.table s 0 ≡ by (free i) s =
+    let by : Bool → ℕ → ℕ = λ b s. entry_from_next group (label_of group i) b (fewest_at before (i + 1)) s in
+    let entries : (s : ℕ) → In group s → get_or c.if-contains.table s 0 ≡ by (free i) s =
     elim c.if-contains.branch [
       | then-contains w ↦ λ s h.
           ap (λ r. get_or r s 0) w.table-is
@@ -45,5 +45,5 @@ loop-cell-preserved g c =
     ] in (
       length-set before.rows i c.if-contains.table ∙ long,
       filled_more group laws self.usable self.cells free before _ i (omega arith) (rw same at c.loop-cell.invariant.1)
-          (row_put group free i before c.if-contains.table (omega arith) turns),
+          (row_put group free i before c.if-contains.table (omega arith) entries),
     )

@@ -1,5 +1,5 @@
 use Rattle.std.proofs.Common.{rules, sym}
-use Rattle.group.specs.NumberedLemmas.{opposite_outside}
+use Rattle.group.specs.ZeroOutsideLemmas.{opposite_outside}
 use Rattle.group.specs.Xor.{vectors_lawful}
 use Rattle.group.proofs.vectors.VectorsGroup.opposite.Goals as goal
 

@@ -1,5 +1,5 @@
 use Rattle.std.proofs.Common.{rules, sym}
-use Rattle.group.specs.NumberedLemmas.{sum_outside}
+use Rattle.group.specs.ZeroOutsideLemmas.{sum_outside}
 use Rattle.group.specs.Xor.{vectors_lawful}
 use Rattle.group.proofs.vectors.VectorsGroup.sum.Goals as goal
 

@@ -1,7 +1,7 @@
 use Rattle.std.proofs.Common.{◌≡◌, ◌+◌, ◌≤◌, ◌^◌, ◌∷◌, take, length, refl, ap, ◌∙◌, sym, arith}
 use Rattle.std.proofs.lemmas.List.{length-take}
 use Rattle.scan.specs.Rest.{reach}
-use Rattle.scan.specs.Pieces.{left, left_of}
+use Rattle.scan.specs.Pieces.{pieces_left, pieces_in}
 use Rattle.scan.proofs.Remains.{left_first, reach_kept}
 use Rattle.scan.proofs.pieces.PiecesIterator.next.Goals as goal
 use Rattle.scan.proofs.pieces.PiecesIterator.next.Goals.{After-end_of-end, After-get-self}
@@ -20,9 +20,9 @@ invariant_of-self c =
     record { countable = omega arith }
 
 -- the pieces left were the first one, and those that are left now
-first : (c : After-get-self) → left c.args.self.now ≡ take c.end_of-end.result c.in_ok-rest.rest.now ∷ left_of c.args.self.now.separator c.get-self.result
+first : (c : After-get-self) → pieces_left c.args.self.now ≡ take c.end_of-end.result c.in_ok-rest.rest.now ∷ pieces_in c.args.self.now.separator c.get-self.result
 first c =
-    ap (left_of c.args.self.now.separator) c.in_ok-rest.was
+    ap (pieces_in c.args.self.now.separator) c.in_ok-rest.was
     ∙ left_first c.args.self.now.separator c.in_ok-rest.rest.now c.end_of-end.result c.get-self.result c.end_of-end.ensures.first c.get-self.ensures.lookup
 
 pub returns-clause-steps : goal.returns-clause-steps

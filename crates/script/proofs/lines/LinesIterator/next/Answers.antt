@@ -1,5 +1,5 @@
 use Rattle.std.proofs.Common.{◌+◌, ◌<◌, ◌≤◌, length, sym, ap, ◌∙◌, arith, tests}
-use Rattle.scan.specs.Pieces.{left}
+use Rattle.scan.specs.Pieces.{pieces_left}
 use Rattle.script.proofs.Numbering.{numbered_some, numbered_empty, numbered_none}
 use Rattle.script.proofs.lines.LinesIterator.next.Goals as goal
 
@@ -9,7 +9,7 @@ returns-then-not-is_empty-clause-steps c =
     let test = c.if-not-is_empty.ensures in
     let some : 0 < length c.in-Some.piece.bytes.now = omega (arith, tests) in
     sym c.loop-piece.invariant
-    ∙ numbered_some (s.number + 1) c.in-Some.piece.bytes.now (left c.next.new.self) (left s.pieces) c.in-Some.ensures.steps.first some
+    ∙ numbered_some (s.number + 1) c.in-Some.piece.bytes.now (pieces_left c.next.new.self) (pieces_left s.pieces) c.in-Some.ensures.steps.first some
 
 pub returns-then-not-is_empty-clause-goes : goal.returns-then-not-is_empty-clause-goes
 returns-then-not-is_empty-clause-goes c =
@@ -21,13 +21,13 @@ loop-piece-preserved c =
     let s = c.loop-piece.self in
     let test = c.if-not-is_empty.ensures in
     let none : length c.in-Some.piece.bytes.now ≤ 0 = omega (arith, tests) in
-    sym (numbered_empty (s.number + 1) c.in-Some.piece.bytes.now (left c.next.new.self) (left s.pieces) c.in-Some.ensures.steps.first none)
+    sym (numbered_empty (s.number + 1) c.in-Some.piece.bytes.now (pieces_left c.next.new.self) (pieces_left s.pieces) c.in-Some.ensures.steps.first none)
     ∙ c.loop-piece.invariant
 
 pub returns-clause-steps : goal.returns-clause-steps
 returns-clause-steps c =
     let k = c.loop-piece.self.number + 1 in
     let end = c.in_default.ensures.steps in (
-      sym c.loop-piece.invariant ∙ numbered_none k (left c.loop-piece.self.pieces) end.0,
-      numbered_none k (left c.next.new.self) (ap left end.1 ∙ end.0),
+      sym c.loop-piece.invariant ∙ numbered_none k (pieces_left c.loop-piece.self.pieces) end.0,
+      numbered_none k (pieces_left c.next.new.self) (ap pieces_left end.1 ∙ end.0),
     )

@@ -2,11 +2,11 @@ use Rattle.std.proofs.Common.{◌∙◌}
 use Rattle.coset.specs.Code.{code}
 use Rattle.coset.specs.CellSets.{members_of}
 use Rattle.coset.proofs.Sums.{sum_agree}
-use Rattle.store.specs.Steps.{cells_from}
+use Rattle.store.specs.Steps.{set_from}
 use Rattle.store.proofs.store.Store.value_at.Goals as goal
 
 pub returns : goal.returns
 returns g c =
     c.label_sum.ensures
     ∙ sum_agree (code (g.G.Group.meaning c.args.self.now.code.group) c.args.self.now.code.cells) (members_of c.read.result)
-    (cells_from (g.A.CellArray.cells c.args.self.now.array) c.args.at) c.args.self.now.code.cells c.read.ensures
+    (set_from (g.A.CellArray.cells c.args.self.now.array) c.args.at) c.args.self.now.code.cells c.read.ensures

@@ -1,4 +1,4 @@
--- Where a script ends at its head. Assumes nothing.
+-- The errors that end a script at its head, and their columns. Assumes nothing.
 use Rattle.std.specs.Prelude.{ℕ}
 use Rattle.images.specs.declared.fault.ImageError.{ImageError}
 use Rattle.images.specs.declared.fault.ImageError.TheVariants.{Image as ImageRefused, NoMemory as NoRoom}
@@ -10,10 +10,10 @@ use Rattle.commands.specs.declared.head.Head.{Head}
 use Rattle.commands.specs.declared.group_word.GroupWord.{GroupWord}
 use Rattle.commands.specs.declared.word.Number.{Number}
 use Rattle.script.specs.declared.fault.Cause.TheVariants.{Image, Making}
-use Rattle.script.specs.declared.fault.Stop.{Stop}
-use Rattle.script.specs.declared.fault.Stop.TheVariants.{Fault, NoMemory}
+use Rattle.script.specs.declared.fault.ScriptError.{ScriptError}
+use Rattle.script.specs.declared.fault.ScriptError.TheVariants.{Fault, NoMemory}
 
--- the column of a refused count: that of its word
+-- the column of a refused count: that of its word, and 1 for the faults that no heading has
 abbrev pub image_column : Head GroupWord Number → ImageFault → ℕ
 image_column h Short = 1
 image_column h Pages = h.pages.column
@@ -28,9 +28,9 @@ making_column h Unusable = 3
 making_column h Cells = h.n.column
 making_column h Narrow = h.n.column
 
-abbrev pub image_stop : ℕ → Head GroupWord Number → ImageError → Stop
-image_stop k h (ImageRefused f) = Fault (record { cause = Image f; line = k; column = image_column h f })
-image_stop k h NoRoom = NoMemory
+abbrev pub image_error : ℕ → Head GroupWord Number → ImageError → ScriptError
+image_error k h (ImageRefused f) = Fault (record { cause = Image f; line = k; column = image_column h f })
+image_error k h NoRoom = NoMemory
 
-abbrev pub making_stop : ℕ → Head GroupWord Number → MakingFault → Stop
-making_stop k h f = Fault (record { cause = Making f; line = k; column = making_column h f })
+abbrev pub making_error : ℕ → Head GroupWord Number → MakingFault → ScriptError
+making_error k h f = Fault (record { cause = Making f; line = k; column = making_column h f })

@@ -1,10 +1,10 @@
--- Proofs about `numbered`: what it gives at its elements, and that it is lawful. Assumes nothing.
+-- Proofs about `zero_outside`: what it gives at its elements, and that it is lawful. Assumes nothing.
 use Rattle.std.specs.Prelude.{◌≡◌, ℕ, ◌<◌, ◌≤◌, Bool, true, false, ◌&&◌, ◌⊎◌, ◌≢◌, refl}
 use Rattle.std.proofs.Common.{inl, inr, arith, lit≤}
 use Rattle.std.proofs.lemmas.Bool.{cases_eq, cases_lt}
 use Rattle.std.proofs.lemmas.Bool.Decides.{nat_tests}
 use Rattle.group.specs.Group.{Group, Lawful, In, has, unusable}
-use Rattle.group.specs.Numbered.{numbered}
+use Rattle.group.specs.ZeroOutside.{zero_outside}
 
 -- The numbers below n are an abelian group under sum, and opposite gives the inverses.
 pub record Abelian (n : ℕ) (sum : ℕ → ℕ → ℕ) (opposite : ℕ → ℕ) : Type 0 where
@@ -16,13 +16,13 @@ pub record Abelian (n : ℕ) (sum : ℕ → ℕ → ℕ) (opposite : ℕ → ℕ
 
 -- At the elements of a usable group its sum and its opposite are those that it is given by.
 module _ (n : ℕ) (sum : ℕ → ℕ → ℕ) (opposite : ℕ → ℕ) where
-  pub at_sum : (a b : ℕ) → a < n → b < n → (numbered true n sum opposite).sum a b ≡ sum a b
+  pub at_sum : (a b : ℕ) → a < n → b < n → (zero_outside true n sum opposite).sum a b ≡ sum a b
   at_sum a b i j = grind (arith, nat_tests)
 
-  pub at_opposite : (a : ℕ) → a < n → (numbered true n sum opposite).opposite a ≡ opposite a
+  pub at_opposite : (a : ℕ) → a < n → (zero_outside true n sum opposite).opposite a ≡ opposite a
   at_opposite a i = grind (arith, nat_tests)
 
-  usable_lawful : 2 ≤ n → n ≤ 64 → Abelian n sum opposite → Lawful (numbered true n sum opposite)
+  usable_lawful : 2 ≤ n → n ≤ 64 → Abelian n sum opposite → Lawful (zero_outside true n sum opposite)
   usable_lawful least most laws = record {
     least = least;
     most = omega arith;
@@ -44,13 +44,13 @@ module _ (n : ℕ) (sum : ℕ → ℕ → ℕ) (opposite : ℕ → ℕ) where
     outside_left = λ a b i. grind (arith, nat_tests);
     outside_right = λ a b i. grind (arith, nat_tests);
     outside_opposite = λ a i. grind (arith, nat_tests);
-    never_sum = λ e a b. absurd (omega arith);
-    never_opposite = λ e a. absurd (omega arith);
+    unusable_sum = λ e a b. absurd (omega arith);
+    unusable_opposite = λ e a. absurd (omega arith);
   }
 
-  pub numbered_lawful : (usable : Bool) → (usable ≡ true → (2 ≤ n) × (n ≤ 64) × Abelian n sum opposite) → Lawful (numbered usable n sum opposite)
-  numbered_lawful true given = let (least, most, laws) = given refl in usable_lawful least most laws
-  numbered_lawful false given = record {
+  pub zero_outside_lawful : (usable : Bool) → (usable ≡ true → (2 ≤ n) × (n ≤ 64) × Abelian n sum opposite) → Lawful (zero_outside usable n sum opposite)
+  zero_outside_lawful true given = let (least, most, laws) = given refl in usable_lawful least most laws
+  zero_outside_lawful false given = record {
     least = lit≤ tt;
     most = lit≤ tt;
     closed = λ u. absurd (u refl);
@@ -61,8 +61,8 @@ module _ (n : ℕ) (sum : ℕ → ℕ → ℕ) (opposite : ℕ → ℕ) where
     outside_left = λ a b i. refl;
     outside_right = λ a b i. refl;
     outside_opposite = λ a i. refl;
-    never_sum = λ e a b. refl;
-    never_opposite = λ e a. refl;
+    unusable_sum = λ e a b. refl;
+    unusable_opposite = λ e a. refl;
   }
 
 -- At any numbers a sum is an element, since it is 0 away from the elements; and so is an opposite.
@@ -71,7 +71,7 @@ module _ {g : Group} (laws : Lawful g) where
   sum_in a b = inside (cases_eq g.order unusable) (cases_lt a g.order) (cases_lt b g.order)
     where
       inside : (g.order ≡ unusable) ⊎ (g.order ≢ unusable) → (a < g.order) ⊎ (g.order ≤ a) → (b < g.order) ⊎ (g.order ≤ b) → In g (g.sum a b)
-      inside (inl e) _ _ = omega (arith, laws.least, laws.never_sum e a b)
+      inside (inl e) _ _ = omega (arith, laws.least, laws.unusable_sum e a b)
       inside (inr u) (inr i) _ = omega (arith, laws.least, laws.outside_left a b i)
       inside (inr u) (inl i) (inr j) = omega (arith, laws.least, laws.outside_right a b j)
       inside (inr u) (inl i) (inl j) = laws.closed u a b i j
@@ -80,7 +80,7 @@ module _ {g : Group} (laws : Lawful g) where
   opposite_in a = inside (cases_eq g.order unusable) (cases_lt a g.order)
     where
       inside : (g.order ≡ unusable) ⊎ (g.order ≢ unusable) → (a < g.order) ⊎ (g.order ≤ a) → In g (g.opposite a)
-      inside (inl e) _ = omega (arith, laws.least, laws.never_opposite e a)
+      inside (inl e) _ = omega (arith, laws.least, laws.unusable_opposite e a)
       inside (inr u) (inr i) = omega (arith, laws.least, laws.outside_opposite a i)
       inside (inr u) (inl i) = (laws.opposed u a i).0
 
@@ -89,7 +89,7 @@ module _ {g : Group} (laws : Lawful g) where
   sum_outside a b none = outside (cases_eq g.order unusable) (cases_lt a g.order) (cases_lt b g.order)
     where
       outside : (g.order ≡ unusable) ⊎ (g.order ≢ unusable) → (a < g.order) ⊎ (g.order ≤ a) → (b < g.order) ⊎ (g.order ≤ b) → g.sum a b ≡ 0
-      outside (inl e) _ _ = laws.never_sum e a b
+      outside (inl e) _ _ = laws.unusable_sum e a b
       outside (inr u) (inr i) _ = laws.outside_left a b i
       outside (inr u) (inl i) (inr j) = laws.outside_right a b j
       outside (inr u) (inl i) (inl j) = absurd (grind (arith, nat_tests))
@@ -98,6 +98,6 @@ module _ {g : Group} (laws : Lawful g) where
   opposite_outside a none = outside (cases_eq g.order unusable) (cases_lt a g.order)
     where
       outside : (g.order ≡ unusable) ⊎ (g.order ≢ unusable) → (a < g.order) ⊎ (g.order ≤ a) → g.opposite a ≡ 0
-      outside (inl e) _ = laws.never_opposite e a
+      outside (inl e) _ = laws.unusable_opposite e a
       outside (inr u) (inr i) = laws.outside_opposite a i
       outside (inr u) (inl i) = absurd (grind (arith, nat_tests))
