@@ -17,6 +17,11 @@ pub struct CellSet {
 
 // Empty. An `ArrayVec` asks for a default.
 impl Default for CellSet {
+    ghost use Rattle.std.specs.Prelude.{◌≡◌, ℕ, false};
+    ghost use Rattle.coset.specs.CellSets.{members_of};
+
+    ghost is_default = { λ s. (i : ℕ) → members_of s i ≡ false };
+
     fn default() -> Self {
         CellSet::empty()
     }

@@ -38,7 +38,7 @@ use Rattle.script.specs.declared.reply.Reply.TheVariants.{Refused as RefusedLine
 use Rattle.script.specs.HeadErrors.{image_column, making_column, image_error, making_error}
 use Rattle.script.specs.Lines.{numbered}
 use Rattle.script.specs.Execution.{refusal, ExecutesLines, Answered}
-use Rattle.script.specs.Script.{heading_rows, MadeStore, HeadingFails, OpensStore, Starts, Prints, Answers}
+use Rattle.script.specs.Script.{heading_rows, MadeStore, HeadAllocates, HeadingFails, OpensStore, Starts, Prints, Answers}
 
 module _ (h : Head GroupWord Number) where
   at_pages : (e : ImageFault) → image_number e ≡ 11 → image_column h e ≡ h.pages.column
@@ -141,7 +141,7 @@ module _ (p : HeadPlace) where
     where
       go : (f : ImageError) → MakesImage bytes p.heading.pages.value p.heading.width.value (Err f) → HeadingFails p.line p.heading (image_error p.line p.heading f)
       go (ImageRefused d) refused = (counts_refused p.heading d refused, refl)
-      go NoRoom refused = tt
+      go NoRoom served = served
 
   pub image_made :
       {B : Type 0} (bytes : B → List ℕ) (r : Result B ImageError) (v : B) → located p r ≡ Ok v → MakesImage bytes p.heading.pages.value p.heading.width.value r →
@@ -197,4 +197,4 @@ module _ (script : List ℕ) (l : List ℕ × ℕ) (rest : List (List ℕ × ℕ
       }
       )
       )
-  head_read items h (Err NoMemory) read opens = tt
+  head_read items h (Err NoMemory) read opens = (short, subst HeadAllocates (sym lines) (h, read.0, read.1, opens))

@@ -3,7 +3,8 @@
 use Rattle.std.specs.Prelude.{◌≡◌, ℕ, ◌<◌, ◌≤◌, ◌⊎◌, List, [], ◌∷◌, length, Ok, Err, Result}
 use Rattle.group.specs.Group.{unusable}
 use Rattle.cells.specs.Cells.{Alike}
-use Rattle.images.specs.Fresh.{blank as fresh_cells}
+use Rattle.cells.specs.Rows.{Served}
+use Rattle.images.specs.Fresh.{blank as fresh_cells, fresh_rows}
 use Rattle.coset.specs.Code.{code}
 use Rattle.calls.specs.declared.call.Call.{Call}
 use Rattle.calls.specs.Records.{records}
@@ -86,20 +87,29 @@ Prints script out =
     ((65535 < length script) × (out ≡ refusal (Line Size) 1 1 ∷ []))
     ⊎ ((length script ≤ 65535) × Starts (numbered 1 (cut 10 script)) out)
 
--- why a heading makes no store: the refusal that is printed, or want of memory, of which nothing more is said
+-- the counts of pages and of cells of a heading are accepted
+abbrev pub CountsAccepted : Head GroupWord Number → Type 0
+CountsAccepted h = Served (fresh_rows h.pages.value h.width.value)
+
+-- why a heading makes no store: the refusal that is printed, or that there is no memory for its part or the replies
 abbrev pub HeadingFails : ℕ → Head GroupWord Number → ScriptError → Type 0
 HeadingFails k h (Fault f) = RefusedAt (heading_rows h) (cause_number f.cause) f.column × (f.line ≡ k)
-HeadingFails k h NoMemory = Unit {0}
+HeadingFails k h NoMemory = CountsAccepted h
 
 -- what a heading and the lines after it come to; `items` are the replies of an answer
 abbrev pub OpensStore : {A : Type 0} → (A → List Reply) → ℕ → Head GroupWord Number → List (List ℕ × ℕ) → Result A ScriptError → Type 0
 OpensStore items k h lines (Ok v) = MadeStore h lines (items v)
 OpensStore items k h lines (Err e) = HeadingFails k h e
 
--- the same of a whole script, whose one refusal is what it prints
+-- the first of the lines is a head that is well written, and its counts are accepted: a fresh part is allocated
+abbrev pub HeadAllocates : List (List ℕ × ℕ) → Type 0
+HeadAllocates [] = ⊥
+HeadAllocates (l ∷ ls) = (h : Head GroupWord Number) × NotRefused (head_rows l.0) × IsHeading l.0 h × CountsAccepted h
+
+-- The same of a whole script: its one refusal is what it prints, and only where its head allocates can memory be short.
 abbrev pub ScriptFails : List ℕ → ScriptError → Type 0
 ScriptFails script (Fault f) = Prints script (Refused f ∷ [])
-ScriptFails script NoMemory = Unit {0}
+ScriptFails script NoMemory = (length script ≤ 65535) × HeadAllocates (numbered 1 (cut 10 script))
 
 abbrev pub Answers : {A : Type 0} → (A → List Reply) → List ℕ → Result A ScriptError → Type 0
 Answers items script (Ok v) = Prints script (items v)

@@ -22,7 +22,7 @@ use store::making::check_making;
 // the most bytes of a script
 const MAX_SCRIPT: usize = 65_535;
 
-// Reads the head, and answers the lines after it.
+// Reads the head, and answers the lines after it. Memory is short only where the head is good and its part is allocated.
 pub(crate) fn start(heap: Global, script: &[u8]) -> Result<Vec<Reply>, ScriptError>
     ensures { Answers vec_items script.now result }
 {

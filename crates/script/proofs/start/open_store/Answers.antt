@@ -27,6 +27,14 @@ returns-in_err-located_at c =
     (store_refused place (part_cells Flash c.over-part.result.layout c.over-part.result.image.now) fresh image.0 c.check_making.result
     c.in_err-located_at.field-0.0 (sym c.located_at-2.ensures ∙ c.in_err-located_at.was) (rw (← c.index-3.ensures) c.check_making.ensures))
 
+pub returns-in_err-answer_rest : goal.returns-in_err-answer_rest
+returns-in_err-answer_rest c =
+    let image =
+    image_made c.args.place vec_items c.fresh_flash-fresh.result c.in_ok-image.image (sym c.located_at.ensures ∙ c.in_ok-image.was)
+    (rw (← c.index.ensures, ← c.index-2.ensures) c.fresh_flash-fresh.ensures) in
+    let p = err_from_is_err_and c.from_residual-in_err-answer_rest.result c.from_residual-in_err-answer_rest.ensures.1 in
+    rw (p.1, p.2) image.0
+
 pub returns : goal.returns
 returns c =
     let place = c.args.place in
