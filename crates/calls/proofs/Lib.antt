@@ -12,4 +12,7 @@ pub mod Subsets
 pub mod Worked
 pub mod Sampled
 pub mod PageLife
+pub mod Filling
+pub mod Marks
+pub mod Counting
 pub mod Running

@@ -87,6 +87,7 @@ unfolding sum_below size_below sizes halves most_halves figure
 page_life_obeys = record {
   figure_is = refl;
   enough = omega arith;
+  labelled = λ i. refl;
   starts = λ i h. refl;
   linked = (refl, (refl, (refl, (refl, (refl, (refl, (refl, (refl, refl))))))));
   obeys = (

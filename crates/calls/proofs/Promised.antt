@@ -5,7 +5,8 @@ use Rattle.group.specs.Group.{Group, Lawful}
 use Rattle.calls.specs.declared.call.Call.{Call}
 use Rattle.calls.specs.declared.call.Call.TheVariants.{Get, Put, Renew}
 use Rattle.calls.specs.declared.ledger.Ledger.{Ledger}
-use Rattle.coset.specs.Code.{Code, code}
+use Rattle.coset.specs.Code.{Code, code, LabelledInTurn}
+use Rattle.coset.proofs.Labels.{code_itself}
 use Rattle.calls.specs.Records.{records, value}
 use Rattle.calls.specs.Ledger.{ceiling, raised}
 use Rattle.calls.specs.Calls.{State, Answer, Obeys}
@@ -93,32 +94,51 @@ module _ (g : Group) (laws : Lawful g) (n : ℕ) where
       (subst (Every (Rules (code g n))) (sym (append-nil history)) all) in
       ap (λ z. value (code g n) z.cells k) to.1 ∙ to.4 k h
 
-pub rules_suffice : RulesSuffice
-rules_suffice g laws n first history last within linked all =
-    let c = code g n in
-    record {
-      history = history;
-      its_calls = refl;
-      its_answers = refl;
-      linked = linked;
-      obeys = all;
-      full_exactly = each _ _ (λ e o. full_exactly c e.call e.answer e.before e.after o) history all;
-      fewest = each _ _ (λ e o. fewest c e.call e.answer e.before e.after o) history all;
-      changes_per_erase = λ long p h. changes_per_erase g laws n long history first last linked all p h;
-      data_sheet = λ long. data_sheet g laws n long history first last linked all;
-      erases = erases c history first last linked all;
-      lasts = each _ _ (λ e o. lasts c e.call e.answer e.before e.after o) history all;
-      gets = gets g laws n history first last linked all;
-      values = values g laws n history first last linked all;
-      ledger_changes = counted c (λ e. cond (changed c e) 1 0) (λ l. l.changes) (λ l w. w.changes) (λ e noted. noted.changes) history first last linked all within;
-      ledger_renewals = counted c (λ e. cond (renewed e) 1 0) (λ l. l.renewals) (λ l w. w.renewals) (λ e noted. noted.renewals) history first last linked all within;
-      ledger_marked = counted c (λ e. marks e.call e.answer) (λ l. l.marked) (λ l w. w.marked) (λ e noted. noted.marked) history first last linked all within;
-    }
+module _ (g : Group) (laws : Lawful g) (n : ℕ) where
+  keeps :
+      (first : State) (history : List Event) (last : State) → WithinCeiling first.ledger → Linked first history last →
+      Every (Rules (code g n)) history →
+      Promise (code g n) first (map (λ (e : Event). e.call) history) (map (λ (e : Event). e.answer) history) last
+  keeps first history last within linked all =
+      let c = code g n in
+      record {
+        history = history;
+        its_calls = refl;
+        its_answers = refl;
+        linked = linked;
+        obeys = all;
+        full_exactly = each _ _ (λ e o. full_exactly c e.call e.answer e.before e.after o) history all;
+        fewest = each _ _ (λ e o. fewest c e.call e.answer e.before e.after o) history all;
+        changes_per_erase = λ long p h. changes_per_erase g laws n long history first last linked all p h;
+        data_sheet = λ long. data_sheet g laws n long history first last linked all;
+        erases = erases c history first last linked all;
+        lasts = each _ _ (λ e o. lasts c e.call e.answer e.before e.after o) history all;
+        gets = gets g laws n history first last linked all;
+        values = values g laws n history first last linked all;
+        ledger_changes = counted c (λ e. cond (changed c e) 1 0) (λ l. l.changes) (λ l w. w.changes) (λ e noted. noted.changes) history first last linked all within;
+        ledger_renewals = counted c (λ e. cond (renewed e) 1 0) (λ l. l.renewals) (λ l w. w.renewals) (λ e noted. noted.renewals) history first last linked all within;
+        ledger_marked = counted c (λ e. marks e.call e.answer) (λ l. l.marked) (λ l w. w.marked) (λ e noted. noted.marked) history first last linked all within;
+      }
 
--- the promise of a history has that history
+  kept_history :
+      (first : State) (history : List Event) (last : State) (within : WithinCeiling first.ledger) (linked : Linked first history last)
+      (all : Every (Rules (code g n)) history) → (keeps first history last within linked all).history ≡ history
+  unfolding keeps
+  kept_history first history last within linked all = refl
+
+-- The promise of a history, which is its own. A code with the labels of the rules is that of its group and its number
+-- of cells.
 pub promised :
-    (g : Group) → Lawful g → (n : ℕ) (first : State) (history : List Event) (last : State) → WithinCeiling first.ledger → Linked first history last →
-    Every (λ e. Obeys (code g n) e.call e.answer e.before e.after) history →
-    (p : Promise g n first (map (λ (e : Event). e.call) history) (map (λ (e : Event). e.answer) history) last) × (p.history ≡ history)
-unfolding rules_suffice
-promised g lawful n first history last within linked obeys = (rules_suffice g lawful n first history last within linked obeys, refl)
+    (c : Code) → Lawful c.group → LabelledInTurn c → (first : State) (history : List Event) (last : State) → WithinCeiling first.ledger →
+    Linked first history last → Every (Rules c) history →
+    (p : Promise c first (map (λ (e : Event). e.call) history) (map (λ (e : Event). e.answer) history) last) × (p.history ≡ history)
+promised c lawful labels first history last within linked all =
+    let same = code_itself c labels in
+    subst (λ k. (p : Promise k first (map (λ (e : Event). e.call) history) (map (λ (e : Event). e.answer) history) last) × (p.history ≡ history)) same
+    (let obeyed = subst (λ k. Every (Rules k) history) (sym same) all in (
+      keeps c.group lawful c.cells first history last within linked obeyed,
+      kept_history c.group lawful c.cells first history last within linked obeyed,
+    ))
+
+pub rules_suffice : RulesSuffice
+rules_suffice c lawful labels first history last within linked all = (promised c lawful labels first history last within linked all).0

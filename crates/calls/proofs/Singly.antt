@@ -3,7 +3,7 @@ use Rattle.std.proofs.Common.{◌≡◌, List, [], ◌∷◌, map, Ok, Err, refl
 use Rattle.calls.specs.declared.ledger.Ledger.{Ledger}
 use Rattle.calls.specs.declared.call.Call.{Call}
 use Rattle.cells.specs.Cells.{Cells}
-use Rattle.coset.specs.Code.{Code, code}
+use Rattle.coset.specs.Code.{Code}
 use Rattle.calls.specs.Records.{value}
 use Rattle.calls.specs.Ledger.{blank, noted}
 use Rattle.calls.specs.Calls.{State, Answer, state_of, record_of, Obeys}
@@ -59,12 +59,11 @@ module _ (c : Code) where
   its_answers l (e ∷ es) = ap (λ cs. e.answer ∷ cs) (its_answers (next e l) es)
 
 pub single_calls_suffice : SingleCallsSuffice
-single_calls_suffice g laws n first made last on all =
-    let c = code g n in (
-      counted c blank made,
-      subst₂ (λ calls answers. Promise g n (state_of first blank) calls answers (state_of last (counted c blank made)))
-          (its_calls c blank made) (its_answers c blank made)
-          (rules_suffice g laws n (state_of first blank) (told c blank made) (state_of last (counted c blank made))
-          (record { changes = omega arith; renewals = omega arith; marked = omega arith })
-          (linked c blank made first last on) (all_obeyed c blank made all)),
-    )
+single_calls_suffice c lawful labels first made last on all = (
+  counted c blank made,
+  subst₂ (λ calls answers. Promise c (state_of first blank) calls answers (state_of last (counted c blank made)))
+      (its_calls c blank made) (its_answers c blank made)
+      (rules_suffice c lawful labels (state_of first blank) (told c blank made) (state_of last (counted c blank made))
+      (record { changes = omega arith; renewals = omega arith; marked = omega arith })
+      (linked c blank made first last on) (all_obeyed c blank made all)),
+)

@@ -4,7 +4,7 @@ use Rattle.std.proofs.lemmas.Bool.{cases_eq, cases_lt, eq-eqb, ne_eqb, both_ways
 use Rattle.group.specs.Group.{Group, Lawful, In, step}
 use Rattle.cells.specs.Cells.{Cells, Shaped, Cell}
 use Rattle.cells.specs.Sets.{Cellset}
-use Rattle.cells.specs.Rows.{Refused}
+use Rattle.cells.specs.Rows.{Refused, Served, rows_before}
 use Rattle.calls.specs.declared.call.Call.{Call}
 use Rattle.calls.specs.declared.call.Call.TheVariants.{Get, Put, Renew}
 use Rattle.coset.specs.Code.{Code, code, sum_of, Unreachable, Plan}
@@ -34,14 +34,16 @@ shape_kept c (Renew k x) (Ok r) before after obeys = obeys.1.shape
 pub full_exactly : (c : Code) (call : Call) (answer : Answer) (before after : State) → Obeys c call answer before after → FullExactly c call answer before.cells
 full_exactly c (Get k) answer before after obeys = tt
 full_exactly c (Renew k x) answer before after obeys = tt
-full_exactly c (Put k x) (Ok r) before after obeys = λ hk hx. (λ no. absurd no, λ full. absurd (obeys.0.1.1.0 full))
-full_exactly c (Put k x) (Err f) before after obeys = λ hk hx. go hk hx obeys.0
+full_exactly c (Put k x) (Ok r) before after obeys = λ earlier. (λ no. absurd no, λ full. absurd (obeys.0.1.1.0 full))
+full_exactly c (Put k x) (Err f) before after obeys = λ earlier. go earlier obeys.0
   where
-    go : k < records c before.cells → x < c.group.order → Refused (rows c before.cells (Put k x)) (number f) → (number f ≡ 42) ↔ Unreachable c (free c before.cells k) (step c.group (value c before.cells k) x)
-    go hk hx (inl here) = absurd (let h = here.0 in omega arith)
-    go hk hx (inr (no40, inl here)) = absurd (let h = here.0 in omega arith)
-    go hk hx (inr (no40, inr (no41, inl here))) = (λ _. here.0, λ _. here.1)
-    go hk hx (inr (no40, inr (no41, inr (no42, never)))) = absurd never
+    go :
+        Served (rows_before 42 (rows c before.cells (Put k x))) → Refused (rows c before.cells (Put k x)) (number f) →
+        (number f ≡ 42) ↔ Unreachable c (free c before.cells k) (step c.group (value c before.cells k) x)
+    go earlier (inl here) = absurd (earlier.0 here.0)
+    go earlier (inr (no40, inl here)) = absurd (earlier.1.0 here.0)
+    go earlier (inr (no40, inr (no41, inl here))) = (λ _. here.0, λ _. here.1)
+    go earlier (inr (no40, inr (no41, inr (no42, never)))) = absurd never
 
 -- An accepted put sets a fewest such set.
 pub fewest : (c : Code) (call : Call) (answer : Answer) (before after : State) → Obeys c call answer before after → Fewest c call answer before.cells after.cells

@@ -6,5 +6,7 @@ pub mod History
 pub mod DataSheet
 pub mod Accesses
 pub mod Promise
+pub mod Steps
+pub mod Lists
 pub mod Examples
 pub mod Sample

@@ -1,17 +1,17 @@
 -- The records of a store: how many there are, which cells each has, and the value of each. Assumes nothing.
 use Rattle.std.specs.Prelude.{◌≡◌, ℕ, ◌+◌, ◌*◌, ◌/◌, ◌%◌, ◌<◌, ◌≤◌, min, Bool, true, cond, not, ◌&&◌, ◌⊎◌, ◌↔◌, List, [], ◌∷◌, ◌==◌, nat_le, nat_lt}
-use Rattle.group.specs.Group.{Group, unusable}
+use Rattle.group.specs.Group.{unusable}
 use Rattle.cells.specs.Cells.{Cells}
 use Rattle.cells.specs.Rows.{Row, row, Served}
 use Rattle.cells.specs.Sets.{Cellset}
-use Rattle.coset.specs.Code.{Code, code, sum_of}
+use Rattle.coset.specs.Code.{Code, sum_of}
 
--- What refuses a making of the group g, the array m and n cells to a record, in the order of the checks.
-abbrev pub making_rows : Group → Cells → ℕ → List Row
-making_rows g m n =
-    row 30 (g.order ≡ unusable) ∷
-    (row 31 ((n ≡ 0) ⊎ (63 < n)) ∷
-    (row 32 (m.width < n) ∷ []))
+-- What refuses a making of the code c and the array m, in the order of the checks.
+abbrev pub making_rows : Code → Cells → List Row
+making_rows c m =
+    row 30 (c.group.order ≡ unusable) ∷
+    (row 31 ((c.cells ≡ 0) ⊎ (63 < c.cells)) ∷
+    (row 32 (m.width < c.cells) ∷ []))
 
 -- whether the making is accepted: none of these rows holds (`MakesExactly`)
 abbrev pub makes : Code → Cells → Bool
@@ -52,4 +52,4 @@ value c m k = sum_of c (held c m k)
 
 -- A making is accepted exactly where none of its rows holds.
 abbrev pub MakesExactly : Type 0
-MakesExactly = (g : Group) (m : Cells) (n : ℕ) → (makes (code g n) m ≡ true) ↔ Served (making_rows g m n)
+MakesExactly = (c : Code) (m : Cells) → (makes c m ≡ true) ↔ Served (making_rows c m)

@@ -1,5 +1,5 @@
 -- That the statements are about something: lawful groups, and a history that obeys the rules. Assumes nothing.
-use Rattle.std.specs.Prelude.{◌≡◌, ℕ, ◌≤◌, Bool, true, false, List, [], ◌∷◌, Ok, Err}
+use Rattle.std.specs.Prelude.{◌≡◌, ℕ, ◌≤◌, List, [], ◌∷◌, Ok, Err}
 use Rattle.cells.specs.declared.fault.DeviceFault.TheVariants.{Worn}
 use Rattle.group.specs.Group.{Lawful, figure}
 use Rattle.group.specs.Integers.{integers}
@@ -7,7 +7,7 @@ use Rattle.group.specs.Vectors.{vectors}
 use Rattle.calls.specs.declared.call.Call.{Call}
 use Rattle.calls.specs.declared.call.Call.TheVariants.{Get, Put, Renew}
 use Rattle.calls.specs.declared.fault.StoreFault.TheVariants.{NoRecord, NoValue, Full, Fits, Unreached, Device}
-use Rattle.coset.specs.Code.{code}
+use Rattle.coset.specs.Code.{code, LabelledInTurn}
 use Rattle.calls.specs.Calls.{State, Answer, Obeys}
 use Rattle.calls.specs.History.{Event, Linked, Every}
 use Rattle.calls.specs.DataSheet.{Unset}
@@ -103,7 +103,8 @@ page_life =
 -- is 1.
 pub record PageLifeObeys : Type 0 where
   pub figure_is : figure (vectors 2) ≡ 1
-  pub enough : EveryNonzeroLabelled (vectors 2) 3
+  pub enough : EveryNonzeroLabelled (code (vectors 2) 3)
+  pub labelled : LabelledInTurn (code (vectors 2) 3)
   pub starts : Unset none_set.cells 0
   pub linked : Linked none_set page_life all_set_again
   pub obeys : Every (λ e. Obeys (code (vectors 2) 3) e.call e.answer e.before e.after) page_life

@@ -1,5 +1,6 @@
 // The calls on a store, and those among them that every cell array can serve.
 // A list of them is what a store promises about.
+use crate::fault::StoreFault;
 
 #[derive(Clone, Copy)]
 pub enum Call {
@@ -15,4 +16,24 @@ pub enum Call {
 pub enum Access {
     Get { record: usize },
     Put { record: usize, value: u32 },
+}
+
+/// A call in a list, with the place of its answer. The caller lends the place, so that no list lacks memory for it.
+#[derive(Clone, Copy, Drop)]
+pub struct Entry<C> {
+    pub call: C,
+    /// None until the call was made.
+    pub answer: Option<Result<u32, StoreFault>>,
+}
+
+impl<C> Entry<C> {
+    ghost use Rattle.std.specs.Prelude.{◌≡◌, None};
+
+    /// A call that was not made yet.
+    pub fn new(call: C) -> Entry<C>
+        ensures call { result.call ≡ call }
+        ensures answer { result.answer ≡ None }
+    {
+        Entry { call, answer: None }
+    }
 }

@@ -1,9 +1,13 @@
 // Theorems over whole histories of calls, each on the contract of a function of its own.
 // They speak of the definitions alone; the calls of a store are to be shown to obey the rules that they start from.
 ghost use Rattle.calls.specs.Examples.{Worked};
+ghost use Rattle.calls.specs.Lists.{PairedCellsKnown};
 ghost use Rattle.calls.specs.Promise.{RulesSuffice, SingleCallsSuffice};
 ghost use Rattle.calls.specs.Records.{MakesExactly};
 ghost use Rattle.calls.specs.Sample.{IntegersLawful, SampleObeys, PageLifeObeys};
+
+use cells::array::CellArray;
+use cells::paired::Paired;
 
 // Whatever obeys the rules of one call at each call keeps the whole promise over the list: changes per erase and what a
 // data sheet may say besides, a set cell lasts until its page is renewed, a get answers the value last accepted, wear,
@@ -15,6 +19,12 @@ pub fn rules_suffice()
 // Calls made singly, each on a store made for it, keep it together: so do those of callers in C on an image.
 pub fn single_calls_suffice()
     ensures { SingleCallsSuffice }
+{}
+
+/// Over a paired part on any array, a list of calls leaves each cell below known: no half of a pair is set but by a mark
+/// of the history, and each is unset by its erases.
+pub fn paired_cells_known<A: CellArray>()
+    ensures { PairedCellsKnown A.CellArray ⟦<Paired<A> as CellArray>⟧ }
 {}
 
 // The rules can be obeyed: there are lawful groups of every order from 2 to 64, a history with every kind of call and

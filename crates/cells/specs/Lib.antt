@@ -3,5 +3,7 @@ pub mod Sets
 pub mod Rows
 pub mod Faults
 pub mod Device
+pub mod Steps
+pub mod Chain
 pub mod Bench
 pub mod Paired

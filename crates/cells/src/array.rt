@@ -1,9 +1,10 @@
 // The interfaces: pages of cells that can only be set, and pages that can also be erased.
 // Each call's contract holds for every argument; a refusal alters nothing.
-ghost use Rattle.std.specs.Prelude.{◌≡◌, List};
+ghost use Rattle.std.specs.Prelude.{◌≡◌, ◌≤◌, List};
 ghost use Rattle.std.specs.Borrow.{GName};
 ghost use Rattle.cells.specs.Cells.{Cells, Bounded, is_set};
 ghost use Rattle.cells.specs.Device.{ChecksPage, ChecksCell, ChecksErase, Kept, Looks, Marks, Wears, Erases};
+ghost use Rattle.cells.specs.Steps.{Step, mark_step, erase_step};
 
 use crate::fault::DeviceFault;
 
@@ -18,6 +19,10 @@ pub trait CellArray {
 
     // what holds of its memory as long as nothing else writes there, and what every call keeps
     ghost intact: { Self → Type 0 };
+
+    // What a step does to it, to the last bit of its memory: a step that it serves, and one that it refuses. A part that
+    // nothing but its own calls can tell of a refusal is itself then; a device may count refusals in a register.
+    ghost steps: { Self → Step → Self → Type 0 };
 
     // that its meaning is within the bounds of every array
     ghost bounded: { (a : Self) → Bounded (cells a) };
@@ -67,7 +72,8 @@ pub trait CellArray {
 
     fn mark(&mut self, page: usize, cell: usize) -> Result<(), DeviceFault>
         ensures kept { Kept held intact self.old self.new }
-        ensures marks { Marks page cell (cells self.old) (cells self.new) result };
+        ensures marks { Marks page cell (cells self.old) (cells self.new) result }
+        ensures step { steps self.old (mark_step page cell result) self.new };
 }
 
 // A cell array whose pages can be erased.
@@ -89,5 +95,9 @@ pub trait Erasable: CellArray {
 
     fn erase(&mut self, page: usize) -> Result<(), DeviceFault>
         ensures kept { Kept Self.CellArray.held Self.CellArray.intact self.old self.new }
-        ensures erases { Erases page (Self.CellArray.cells self.old) (Self.CellArray.cells self.new) result };
+        ensures erases { Erases page (Self.CellArray.cells self.old) (Self.CellArray.cells self.new) result }
+        ensures step { Self.CellArray.steps self.old (erase_step page result) self.new };
+
+    // that each page can be erased at least once
+    ghost lasting: { (a : Self) → 1 ≤ (Self.CellArray.cells a).limit };
 }

@@ -1,8 +1,9 @@
 // The bench part: two pages of 64 cells in memory of its own, one byte a cell, for trials without a device.
 // Its limit of three erases is soon reached.
 ghost use Rattle.std.specs.Prelude.{◌≡◌, false, [], replicate};
+ghost use Rattle.std.proofs.Common.{lit≤};
 ghost use Rattle.cells.specs.Cells.{Fresh};
-ghost use Rattle.cells.specs.Bench.{bench_cells, bench_bounded};
+ghost use Rattle.cells.specs.Bench.{bench_cells, bench_bounded, bench_after};
 
 use crate::array::{CellArray, Erasable};
 use crate::fault::DeviceFault;
@@ -56,6 +57,8 @@ impl CellArray for Bench {
 
     ghost intact = { λ _. Unit {0} };
 
+    ghost steps = { λ b s after. after.pages ≡ bench_after b.pages s };
+
     ghost bounded = { λ b. bench_bounded b.pages };
 
     fn pages(&self) -> usize {
@@ -80,6 +83,8 @@ impl CellArray for Bench {
 }
 
 impl Erasable for Bench {
+    ghost lasting = { λ _. lit≤ tt };
+
     fn wear(&self, page: usize) -> Result<(u32, u32), DeviceFault> {
         self.check_page(page)?;
         Ok((self.pages[page].worn.min(LIMIT), LIMIT))

@@ -13,6 +13,8 @@ impl<A: CellArray> CellArray for &mut A {
 
     ghost intact = { λ a. A.CellArray.intact a.now };
 
+    ghost steps = { λ a s after. A.CellArray.steps a.now s after.now };
+
     ghost bounded = { λ a. A.CellArray.bounded a.now };
 
     fn pages(&self) -> usize {
@@ -33,6 +35,8 @@ impl<A: CellArray> CellArray for &mut A {
 }
 
 impl<A: Erasable> Erasable for &mut A {
+    ghost lasting = { λ a. A.lasting a.now };
+
     fn wear(&self, page: usize) -> Result<(u32, u32), DeviceFault> {
         (**self).wear(page)
     }

@@ -5,5 +5,6 @@
 pub mod array;
 pub mod bench;
 pub mod fault;
+pub mod laws;
 pub mod lent;
 pub mod paired;

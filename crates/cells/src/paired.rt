@@ -2,6 +2,8 @@
 // It can be erased where the array below can.
 ghost use Rattle.std.specs.Prelude.{◌≡◌, ◌*◌};
 ghost use Rattle.cells.specs.Device.{Kept, Marks, Erases};
+ghost use Rattle.cells.specs.Steps.{mark_step, erase_step, steps_below};
+ghost use Rattle.cells.specs.Chain.{Takes};
 ghost use Rattle.cells.specs.Paired.{paired_cells, paired_bounded, MarksBoth};
 
 use crate::array::{CellArray, Erasable};
@@ -35,6 +37,9 @@ impl<A: CellArray> CellArray for Paired<A> {
 
     ghost intact = { λ p. A.CellArray.intact p.array };
 
+    // the steps that the array below takes
+    ghost steps = { λ p s after. Takes A.CellArray (steps_below s) p.array after.array };
+
     ghost bounded = { λ p. paired_bounded (A.CellArray.cells p.array) (A.CellArray.bounded p.array) };
 
     fn pages(&self) -> usize {
@@ -55,6 +60,7 @@ impl<A: CellArray> CellArray for Paired<A> {
     fn mark(&mut self, page: usize, cell: usize) -> Result<(), DeviceFault>
         ensures kept { Kept A.CellArray.held A.CellArray.intact self.old.array self.new.array }
         ensures marks { Marks page cell (paired_cells (A.CellArray.cells self.old.array)) (paired_cells (A.CellArray.cells self.new.array)) result }
+        ensures step { Takes A.CellArray (steps_below (mark_step page cell result)) self.old.array self.new.array }
         ensures both { MarksBoth page cell (A.CellArray.cells self.old.array) (A.CellArray.cells self.new.array) result }
     {
         (*self).check_cell(page, cell)?;
@@ -65,6 +71,8 @@ impl<A: CellArray> CellArray for Paired<A> {
 }
 
 impl<A: Erasable> Erasable for Paired<A> {
+    ghost lasting = { λ p. A.lasting p.array };
+
     fn wear(&self, page: usize) -> Result<(u32, u32), DeviceFault> {
         self.array.wear(page)
     }
@@ -72,6 +80,7 @@ impl<A: Erasable> Erasable for Paired<A> {
     fn erase(&mut self, page: usize) -> Result<(), DeviceFault>
         ensures kept { Kept A.CellArray.held A.CellArray.intact self.old.array self.new.array }
         ensures erases { Erases page (paired_cells (A.CellArray.cells self.old.array)) (paired_cells (A.CellArray.cells self.new.array)) result }
+        ensures step { Takes A.CellArray (steps_below (erase_step page result)) self.old.array self.new.array }
         ensures below { Erases page (A.CellArray.cells self.old.array) (A.CellArray.cells self.new.array) result }
     {
         self.array.erase(page)

@@ -5,3 +5,4 @@ pub mod Beyond
 pub mod Entries
 pub mod Rows
 pub mod Walks
+pub mod Labels

@@ -17,6 +17,10 @@ label_of g i = 1 + i % (g.order - 1)
 abbrev pub code : Group → ℕ → Code
 code g n = record { group = g; cells = n; label = label_of g }
 
+-- The labels of a code are those of the rules: the nonzero elements of its group in turn, again and again.
+abbrev pub LabelledInTurn : Code → Type 0
+LabelledInTurn c = (i : ℕ) → c.label i ≡ label_of c.group i
+
 -- the set of every cell
 abbrev pub every : Cellset
 every i = true

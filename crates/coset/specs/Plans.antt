@@ -1,5 +1,5 @@
 -- What the planner answers, and the table that it works with. Assumes nothing.
-use Rattle.std.specs.Prelude.{◌≡◌, ℕ, ◌+◌, ◌<◌, ◌≤◌, min, Bool, true, cond, Some, None, Option, ◌==◌, slice_index, slice_index_or, []}
+use Rattle.std.specs.Prelude.{◌≡◌, ◌≢◌, ℕ, ◌+◌, ◌*◌, ◌<◌, ◌≤◌, min, Bool, true, cond, Some, None, Option, ◌==◌, List, slice_index}
 use Rattle.group.specs.Group.{Group, In, step}
 use Rattle.cells.specs.Sets.{Cellset}
 use Rattle.coset.specs.Code.{Code, size_of, Reaches, Unreachable, Plan}
@@ -19,9 +19,9 @@ First c free d s =
     (t : Cellset) → Reaches c free d t → size_of c t ≤ size_of c s →
     (i : ℕ) → i < c.cells → ((j : ℕ) → j < i → t j ≡ s j) → t i ≡ true → s i ≡ true
 
--- the entry of a table for cell i and element s
+-- the entry of a table for cell i and element s: the rows stand one after the other, with 64 entries each
 abbrev pub fewest_at : Table → ℕ → ℕ → ℕ
-fewest_at table i s = slice_index (slice_index_or table.rows i []) s
+fewest_at table i s = slice_index table.entries (64 * i + s)
 
 -- The entry of a cell for the element s, by the row of the next cell: the cell is left out, or taken if that is better
 -- and it is free.
@@ -33,3 +33,8 @@ entry_from_next g label free next s = cond free (min (next s) (min (next (step g
 pub record Filled (c : Code) (free : Cellset) (table : Table) (first : ℕ) : Type 0 where
   pub last : (s : ℕ) → In c.group s → fewest_at table c.cells s ≡ cond (s == 0) 0 255
   pub entries : (i s : ℕ) → first ≤ i → i < c.cells → In c.group s → fewest_at table i s ≡ entry_from_next c.group (c.label i) (free i) (fewest_at table (i + 1)) s
+
+-- The entries of row i have become those of the given row, and every other entry of the table is as it was.
+pub record PutsRow (before after : Table) (i : ℕ) (row : List ℕ) : Type 0 where
+  pub placed : (s : ℕ) → s < 64 → fewest_at after i s ≡ slice_index row s
+  pub others : (j s : ℕ) → s < 64 → j ≢ i → fewest_at after j s ≡ fewest_at before j s

@@ -38,7 +38,7 @@ impl<G: Group> Code<G> {
     // What the labels of the cells of a set sum to. A loop from each cell of the set to the next: a chain over all
     // cells branches at each, and nothing can foresee how.
     pub fn label_sum(&self, set: &CellSet) -> u32
-        ensures { result ≡ sum_of (code_of G.Group.meaning self.now) (members_of set.now) }
+        ensures { result ≡ sum_of (code_of G.Group self.now) (members_of set.now) }
     {
         let mut sum = 0;
         let mut cell = set.first_in(0, self.cells);

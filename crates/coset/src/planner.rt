@@ -4,7 +4,7 @@ ghost use Rattle.std.specs.Prelude.{◌≡◌, ℕ, ◌+◌, ◌-◌, ◌<◌, �
 ghost use Rattle.group.specs.Group.{In, Usable, step};
 ghost use Rattle.coset.specs.CellSets.{members_of};
 ghost use Rattle.coset.specs.Code.{Plan};
-ghost use Rattle.coset.specs.Plans.{Plans, First, Filled, fewest_at};
+ghost use Rattle.coset.specs.Plans.{Plans, First, Filled, PutsRow, fewest_at};
 ghost use Rattle.coset.specs.Code.{label_of};
 
 use crate::cellset::{CellSet, MAX_CELLS};
@@ -19,21 +19,24 @@ const ROWS: usize = 64;
 
 const ELEMENTS: usize = 64;
 
+const ENTRIES: usize = ROWS * ELEMENTS;
+
 // A row of the table, with an entry for each element: the fewest of the free cells from some cell on that sum to it.
 type Row = [u8; ELEMENTS];
 
-// Row i is that of the cells from cell i on. The rules give the table this size.
+// The rows stand one after the other; row i is that of the cells from cell i on. The rules give the table this size,
+// 4,096 entries.
 #[derive(Clone, Copy)]
 struct Table {
-    rows: [Row; ROWS],
+    entries: [u8; ENTRIES],
 }
 
 impl Table {
     fn unreached() -> Self
-        ensures { result.rows ≡ replicate ROWS (replicate ELEMENTS 255) }
+        ensures { result.entries ≡ replicate ENTRIES 255 }
     {
         Table {
-            rows: [[UNREACHED; ELEMENTS]; ROWS],
+            entries: [UNREACHED; ENTRIES],
         }
     }
 
@@ -43,7 +46,24 @@ impl Table {
         requires s_bound { s < 64 }
         ensures { result ≡ fewest_at self.now cell s }
     {
-        self.rows[cell][s as usize]
+        self.entries[ELEMENTS * cell + s as usize]
+    }
+
+    // A part of the table and no copy, since a row is only read. The rows hold every entry, so nothing is left over.
+    fn row(&self, cell: usize) -> &Row
+        requires { cell < 64 }
+        ensures { (s : ℕ) → s < 64 → slice_index result.now s ≡ fewest_at self.now cell s }
+    {
+        let (rows, _) = self.entries.as_chunks::<ELEMENTS>();
+        &rows[cell]
+    }
+
+    fn put_row(&mut self, cell: usize, row: &Row)
+        requires { cell < 64 }
+        ensures { PutsRow self.old self.new cell row.now }
+    {
+        let first = ELEMENTS * cell;
+        self.entries[first..first + ELEMENTS].copy_from_slice(row);
     }
 }
 
@@ -52,7 +72,7 @@ impl<G: Group> Code<G> {
 
     // A set of the fewest free cells that sum to `step`, or none where no free cells do.
     pub fn plan(&self, free: &CellSet, step: u32) -> Option<CellSet>
-        ensures { Plans (code_of G.Group.meaning self.now) (members_of free.now) step result }
+        ensures { Plans (code_of G.Group self.now) (members_of free.now) step result }
     {
         if step == 0 {
             return Some(CellSet::empty());
@@ -93,14 +113,15 @@ impl<G: Group> Search<'_, G> {
     {
         let mut none = [UNREACHED; ELEMENTS];
         none[0] = 0;
-        table.rows[self.cells] = none;
+        table.put_row(self.cells, &none);
         for cell in (0..self.cells).rev() {
-            let next = table.rows[cell + 1];
-            table.rows[cell] = if self.free.contains(cell) {
-                best(&next, &self.moved(cell, &next))
+            let next = table.row(cell + 1);
+            let row = if self.free.contains(cell) {
+                best(next, &self.moved(cell, next))
             } else {
-                next
+                *next
             };
+            table.put_row(cell, &row);
         }
     }
 

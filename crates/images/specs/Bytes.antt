@@ -1,4 +1,4 @@
--- Which bytes of an image a mark and an erase write, and that they write no other. Assumes nothing.
+-- Which bytes of an image a step of a part writes, and that it writes no other. Assumes nothing.
 use Rattle.std.specs.Prelude.{◌≡◌, ℕ, ◌+◌, ◌*◌, ◌/◌, ◌%◌, ◌<◌, ◌≤◌, List, length, Some, Ok, Err, Result, ◌≢◌, slice_index}
 use Rattle.cells.specs.declared.fault.DeviceFault.{DeviceFault}
 use Rattle.images.specs.declared.format.Format.{Format}
@@ -7,6 +7,8 @@ use Rattle.images.specs.declared.layout.Layout.{Layout}
 use Rattle.cells.specs.Rows.{Refused, Served}
 use Rattle.cells.specs.Faults.{device_number}
 use Rattle.cells.specs.Device.{cell_rows, Names}
+use Rattle.cells.specs.Steps.{Step}
+use Rattle.cells.specs.Steps.Step.{Mark, Erase, MarkRefused, EraseRefused}
 use Rattle.images.specs.Image.{SetsBit, page_bytes, page_at, size, count_of, part_cells}
 
 -- Bit k of the byte `at` is made to read as set; every other bit and byte is as it was.
@@ -25,15 +27,13 @@ pub record PageErased (P c p : ℕ) (xs ys : List ℕ) : Type 0 where
       (j : ℕ) → ((page_at Flash P c p ≤ j) × (j < page_at Flash P c p + page_bytes c) → ⊥) →
       ((1 + 4 * p ≤ j) × (j < 5 + 4 * p) → ⊥) → slice_index ys j ≡ slice_index xs j
 
--- what a mark of cell i of page p does to the bytes
-abbrev pub MarksBytes : Format → Layout → ℕ → ℕ → List ℕ → List ℕ → {A : Type 0} → Result A DeviceFault → Type 0
-MarksBytes f l p i xs ys (Ok u) = BitMarked f (page_at f l.pages l.width p + i / 8) (i % 8) xs ys
-MarksBytes f l p i xs ys (Err e) = ys ≡ xs
-
--- what an erase of page p does to them
-abbrev pub ErasesBytes : Layout → ℕ → List ℕ → List ℕ → {A : Type 0} → Result A DeviceFault → Type 0
-ErasesBytes l p xs ys (Ok u) = PageErased l.pages l.width p xs ys
-ErasesBytes l p xs ys (Err e) = ys ≡ xs
+-- What a step on a part does to its bytes. A mark makes one bit read as set, and an erase, which flash parts alone
+-- have, writes its page and the wear count of it. A step that the part refuses leaves every byte as it was.
+abbrev pub StepsBytes : Format → Layout → Step → List ℕ → List ℕ → Type 0
+StepsBytes f l (Mark p i) xs ys = BitMarked f (page_at f l.pages l.width p + i / 8) (i % 8) xs ys
+StepsBytes f l (Erase p) xs ys = (f ≡ Flash) × PageErased l.pages l.width p xs ys
+StepsBytes f l (MarkRefused p i) xs ys = ys ≡ xs
+StepsBytes f l (EraseRefused p) xs ys = ys ≡ xs
 
 -- The byte that holds cell i of page p, which lies within the image, or why there is no such cell.
 abbrev pub Finds : Format → Layout → List ℕ → ℕ → ℕ → Result ℕ DeviceFault → Type 0

@@ -3,9 +3,11 @@
 ghost use Rattle.std.specs.Prelude.{◌≡◌, ◌+◌, ◌*◌, ◌<◌, [], ◌∷◌, length, replicate};
 ghost use Rattle.images.specs.declared.format.Format.TheVariants.{Flash as FlashFormat};
 ghost use Rattle.cells.specs.Device.{Erases, Kept};
+ghost use Rattle.cells.specs.Steps.{erase_step};
+ghost use Rattle.std.proofs.Common.{lit≤};
 ghost use Rattle.images.specs.Image.{count_of, part_cells};
 ghost use Rattle.images.specs.Check.{Accepted};
-ghost use Rattle.images.specs.Bytes.{ErasesBytes};
+ghost use Rattle.images.specs.Bytes.{StepsBytes};
 
 use crate::format::Format;
 use crate::part::{Kind, Part};
@@ -27,6 +29,8 @@ impl Kind for Flash {
 pub type FlashPart<'a> = Part<'a, Flash>;
 
 impl Erasable for Part<'_, Flash> {
+    ghost lasting = { λ _. lit≤ tt };
+
     fn wear(&self, page: usize) -> Result<(u32, u32), DeviceFault> {
         self.check_page(page)?;
         Ok((count(self.image, page).min(LIMIT), LIMIT))
@@ -35,8 +39,7 @@ impl Erasable for Part<'_, Flash> {
     fn erase(&mut self, page: usize) -> Result<(), DeviceFault>
         ensures kept { Kept (λ a. a.image.ghost_name ∷ []) (λ a. Accepted FlashFormat a.layout a.image.now) self.old self.new }
         ensures erases { Erases page (part_cells FlashFormat self.old.layout self.old.image.now) (part_cells FlashFormat self.new.layout self.new.image.now) result }
-        ensures layout { self.new.layout ≡ self.old.layout }
-        ensures bytes { ErasesBytes self.old.layout page self.old.image.now self.new.image.now result }
+        ensures step { (self.new.layout ≡ self.old.layout) × StepsBytes FlashFormat self.old.layout (erase_step page result) self.old.image.now self.new.image.now }
     {
         let worn = (*self).check_erase(page)?;
         let at = self.layout.page_at(Format::Flash, page);

@@ -3,10 +3,11 @@
 ghost use Rattle.std.specs.Prelude.{◌≡◌, [], ◌∷◌};
 ghost use Rattle.images.specs.declared.format.Format.{Format};
 ghost use Rattle.cells.specs.Device.{Kept, Marks};
+ghost use Rattle.cells.specs.Steps.{mark_step};
 ghost use Rattle.images.specs.Image.{part_cells, part_bounded};
 ghost use Rattle.images.specs.Check.{Accepted, Checks, ReadsAs};
 ghost use Rattle.images.specs.Written.{WrittenOut};
-ghost use Rattle.images.specs.Bytes.{Finds, MarksBytes};
+ghost use Rattle.images.specs.Bytes.{Finds, StepsBytes};
 
 use crate::fault::ImageFault;
 use crate::format::Format;
@@ -69,6 +70,8 @@ impl<K: Kind> CellArray for Part<'_, K> {
     // the image is accepted by the check, and the layout is its own
     ghost intact = { λ a. Accepted K.FORMAT a.layout a.image.now };
 
+    ghost steps = { λ a s after. (after.layout ≡ a.layout) × StepsBytes K.FORMAT a.layout s a.image.now after.image.now };
+
     ghost bounded = { λ a. part_bounded K.FORMAT a.layout a.image.now };
 
     // Each of these two hands its own question on to the layout.
@@ -88,8 +91,7 @@ impl<K: Kind> CellArray for Part<'_, K> {
     fn mark(&mut self, page: usize, cell: usize) -> Result<(), DeviceFault>
         ensures kept { Kept (λ a. a.image.ghost_name ∷ []) (λ a. Accepted K.FORMAT a.layout a.image.now) self.old self.new }
         ensures marks { Marks page cell (part_cells K.FORMAT self.old.layout self.old.image.now) (part_cells K.FORMAT self.new.layout self.new.image.now) result }
-        ensures layout { self.new.layout ≡ self.old.layout }
-        ensures bytes { MarksBytes K.FORMAT self.old.layout page cell self.old.image.now self.new.image.now result }
+        ensures step { (self.new.layout ≡ self.old.layout) × StepsBytes K.FORMAT self.old.layout (mark_step page cell result) self.old.image.now self.new.image.now }
     {
         let at = (*self).find(page, cell)?;
         self.image[at] = K::FORMAT.with_set(self.image[at], cell % 8);

@@ -21,14 +21,14 @@ use store::store::Store;
 // both would hold a borrow for these alone.
 pub(crate) fn answer_line<G: Group, A: Erasable>(store: &mut Store<G, A>, line: Line) -> Reply
     ensures keeps { Keeps A.CellArray.held A.CellArray.intact store.old store.new }
-    ensures execution { Execution (code_of G.Group.meaning store.old.code) (λ h. ExecutesLine line.entry.number line.entry.bytes.now (state A.CellArray.cells store.old) h result) (state A.CellArray.cells store.old) (state A.CellArray.cells store.new) }
+    ensures execution { Execution (code_of G.Group store.old.code) (λ h. ExecutesLine line.entry.number line.entry.bytes.now (state A.CellArray.cells store.old) h result) (state A.CellArray.cells store.old) (state A.CellArray.cells store.new) }
 {
     obey(store, line).unwrap_or_else(|fault| Reply::Refused { fault })
 }
 
 fn obey<G: Group, A: Erasable>(store: &mut Store<G, A>, line: Line) -> Result<Reply, ScriptFault>
     ensures keeps { Keeps A.CellArray.held A.CellArray.intact store.old store.new }
-    ensures execution { Execution (code_of G.Group.meaning store.old.code) (λ h. ExecutesLine line.entry.number line.entry.bytes.now (state A.CellArray.cells store.old) h (reply_of result)) (state A.CellArray.cells store.old) (state A.CellArray.cells store.new) }
+    ensures execution { Execution (code_of G.Group store.old.code) (λ h. ExecutesLine line.entry.number line.entry.bytes.now (state A.CellArray.cells store.old) h (reply_of result)) (state A.CellArray.cells store.old) (state A.CellArray.cells store.new) }
 {
     let order = Order::read(line.bytes).located_at(line.number)?;
     carry_out(store, line.number, order)
@@ -41,7 +41,7 @@ fn carry_out<G: Group, A: Erasable>(
     order: Order,
 ) -> Result<Reply, ScriptFault>
     ensures keeps { Keeps A.CellArray.held A.CellArray.intact store.old store.new }
-    ensures execution { Execution (code_of G.Group.meaning store.old.code) (λ h. ExecutesOrder line order (state A.CellArray.cells store.old) h (reply_of result)) (state A.CellArray.cells store.old) (state A.CellArray.cells store.new) }
+    ensures execution { Execution (code_of G.Group store.old.code) (λ h. ExecutesOrder line order (state A.CellArray.cells store.old) h (reply_of result)) (state A.CellArray.cells store.old) (state A.CellArray.cells store.new) }
 {
     match order {
         Order::Put { record, value } => {

@@ -2,3 +2,5 @@ pub mod Setting
 pub mod Serving
 pub mod Paging
 pub mod Renewing
+pub mod Located
+pub mod Taking

@@ -1,5 +1,5 @@
 -- From the steps of a renewal to the rules that it obeys. Assumes nothing.
-use Rattle.std.proofs.Common.{◌≡◌, ℕ, ◌+◌, ◌*◌, ◌%◌, ◌<◌, ◌≤◌, Bool, true, false, cond, eqb, ◌⊎◌, List, get_or, None, Ok, Err, Result, sym, refl, ap, ◌∙◌, subst, ap₂, inl, inr, arith}
+use Rattle.std.proofs.Common.{◌≡◌, ℕ, ◌+◌, ◌*◌, ◌%◌, ◌<◌, ◌≤◌, Bool, true, false, cond, eqb, ◌⊎◌, List, length, get_or, None, Ok, Err, Result, IsOkAnd, sym, refl, ap, ◌∙◌, subst, ap₂, inl, inr, arith}
 use Rattle.std.proofs.lemmas.Bool.{cases_eq, eq-eqb, ne_eqb}
 use Rattle.group.specs.Group.{step}
 use Rattle.cells.specs.Cells.{Cells, Cell}
@@ -21,6 +21,7 @@ use Rattle.calls.proofs.Geometry.{There, there, number_of, page_back, place_back
 use Rattle.store.specs.declared.place.Found.{Found}
 use Rattle.store.specs.Steps.{FoundRecord, set_from, nth_place, target, PlansOfPage, PageWritten}
 use Rattle.store.proofs.Setting.{shaped_then}
+use Rattle.store.proofs.Located.{located_ok}
 use Rattle.store.proofs.Serving.{unreachable_free, open_cells, open_free}
 
 -- what an erase did, by its answer with the record beside a refusal
@@ -44,6 +45,15 @@ pub erase_refused : (m : Cells) (p d : ℕ) → p < m.pages → Refused (erase_r
 erase_refused m p d h (inl here) = absurd (let past = here.0 in omega arith)
 erase_refused m p d h (inr (no20, inl here)) = here
 erase_refused m p d h (inr (no20, inr (no22, never))) = absurd never
+
+-- what was written of a page, by the answer with the record beside a refusal
+pub page_written :
+    (k n page b marked : ℕ) (items plans : List CellSet) (m m' : Cells) (r : Result ℕ DeviceFault) → located k r ≡ Ok marked →
+    IsOkAnd r (PageWritten n page (length items) items m m') → items ≡ plans → length plans ≡ b → PageWritten n page b plans m m' marked
+page_written k n page b marked items plans m m' r e written same all =
+    subst (λ l. PageWritten n page l plans m m' marked) all
+    (subst (λ ps. PageWritten n page (length ps) ps m m' marked) same
+    (located_ok k r marked (PageWritten n page (length items) items m m') e written))
 
 -- a store that has a record was made with its check
 pub records_to_page : (c : Code) (m : Cells) (k : ℕ) → k < records c m → cond (makes c m) (per_page c m) 0 ≡ per_page c m

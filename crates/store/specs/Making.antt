@@ -1,6 +1,6 @@
 -- What the check of a making answers. Assumes nothing.
 use Rattle.std.specs.Prelude.{ℕ, Ok, Err, Result}
-use Rattle.group.specs.Group.{Group}
+use Rattle.coset.specs.Code.{Code}
 use Rattle.cells.specs.Cells.{Cells as Meaning}
 use Rattle.cells.specs.Rows.{Refused, Served}
 use Rattle.store.specs.declared.making.MakingFault.{MakingFault}
@@ -14,6 +14,6 @@ making_number Cells = 31
 making_number Narrow = 32
 
 -- A making is accepted where no row holds, and else refused by the first that does.
-abbrev pub Makes : Group → Meaning → ℕ → {A : Type 0} → Result A MakingFault → Type 0
-Makes g m n (Ok u) = Served (making_rows g m n)
-Makes g m n (Err f) = Refused (making_rows g m n) (making_number f)
+abbrev pub Makes : Code → Meaning → {A : Type 0} → Result A MakingFault → Type 0
+Makes c m (Ok u) = Served (making_rows c m)
+Makes c m (Err f) = Refused (making_rows c m) (making_number f)

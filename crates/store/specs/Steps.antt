@@ -1,5 +1,5 @@
 -- The steps of the calls: finding a record, reading it, and setting cells in it. Assumes nothing.
-use Rattle.std.specs.Prelude.{◌≡◌, ℕ, ◌+◌, ◌*◌, ◌<◌, ◌≤◌, false, cond, ◌||◌, ◌⊎◌, List, Ok, Err, Result, ◌==◌, ◌≢◌, slice_index_or, length}
+use Rattle.std.specs.Prelude.{◌≡◌, ℕ, ◌+◌, ◌*◌, ◌%◌, ◌<◌, ◌≤◌, false, cond, ◌||◌, ◌⊎◌, List, Ok, Err, Result, ◌==◌, ◌≢◌, slice_index_or, length}
 use Rattle.cells.specs.Cells.{Cells, Shaped, Cell}
 use Rattle.cells.specs.Sets.{Cellset}
 use Rattle.calls.specs.declared.fault.StoreFault.{StoreFault}
@@ -10,7 +10,7 @@ use Rattle.coset.specs.Code.{Code, every, sum_of, Plan}
 use Rattle.coset.specs.CellSets.{members_of}
 use Rattle.coset.specs.declared.cellset.CellSet.{CellSet}
 use Rattle.calls.specs.Calls.{sizes}
-use Rattle.calls.specs.Records.{records, page_of, first_of, held, value}
+use Rattle.calls.specs.Records.{records, per_page, page_of, first_of, held, value}
 
 -- where record k lies, or that there is no such record
 abbrev pub LiesAt : Code → Cells → ℕ → Result Place StoreFault → Type 0
@@ -65,6 +65,10 @@ target c m page named x r = cond (r == named) x (sum_of c (set_from m (nth_place
 pub record PlansOfPage (c : Code) (m : Cells) (page named x b : ℕ) (plans : List CellSet) : Type 0 where
   pub all : length plans ≡ b
   pub each : (r : ℕ) (d : CellSet) → r < b → Plan c every (target c m page named x r) (members_of (slice_index_or plans r d))
+
+-- those for a renewal of record k to x: of every record of its page
+abbrev pub PlansForRenewal : Code → Cells → ℕ → ℕ → List CellSet → Type 0
+PlansForRenewal c m k x plans = PlansOfPage c m (page_of c m k) (k % per_page c m) x (per_page c m) plans
 
 -- The first b records of the page have the cells of their plans set, and no other cell of it is; all else is as it was.
 pub record PageWritten (n page b : ℕ) (plans : List CellSet) (before after : Cells) (marked : ℕ) : Type 0 where

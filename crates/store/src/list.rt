@@ -1,30 +1,30 @@
-// Lists of calls on a store: each is served in order, and the whole promise holds of the list.
-// Where there is no memory for the answers nothing is done.
-ghost use Rattle.std.specs.Prelude.{◌≡◌, [], map, IfOk, OnErr, IsOk};
-ghost use Rattle.coset.specs.Code.{code};
+//! Lists of calls on a store: each call is served in order and its answer put beside it, and the whole promise holds of
+//! the list. The caller lends the places of the answers, so that no list is too long.
 ghost use Rattle.calls.specs.declared.call.Call.{Call as CallMeaning};
-ghost use Rattle.calls.specs.Calls.{state_of, Obeys};
-ghost use Rattle.calls.specs.Promise.{Promise, WithinCeiling};
+ghost use Rattle.calls.specs.Calls.{Obeys};
+ghost use Rattle.calls.specs.Promise.{WithinCeiling};
 ghost use Rattle.calls.specs.Accesses.{as_call};
+ghost use Rattle.calls.specs.Lists.{ListServed};
 ghost use Rattle.coset.specs.Codes.{code_of};
-ghost use Rattle.store.specs.Keeps.{Keeps, state};
+ghost use Rattle.store.specs.Keeps.{Keeps, TakesStepsOf, state};
 
 use crate::store::Store;
-use calls::call::{Access, Call};
+use calls::call::{Access, Call, Entry};
 use calls::fault::StoreFault;
 use calls::ledger::Ledger;
 use cells::array::{CellArray, Erasable};
 use group::interface::Group;
-use std::alloc::{AllocError, Global};
 
-// What a store over arrays of the type A can be asked: any call where they can be erased, and else an access.
+/// What a store over arrays of the type A can be asked: any call where they can be erased, and else an access.
 pub trait Request<A: CellArray> {
     // the call that it is
     ghost call: { Self → CallMeaning };
 
+    /// Makes the call on a store, with the answer of `get`, `put` or `renew`.
     fn serve<G: Group>(&self, store: &mut Store<G, A>) -> Result<u32, StoreFault>
-        ensures keeps { Keeps A.CellArray.held A.CellArray.intact store.old store.new }
-        ensures obeys { Obeys (code_of G.Group.meaning store.old.code) (call self.now) result (state A.CellArray.cells store.old) (state A.CellArray.cells store.new) };
+        ensures keeps { Keeps A.CellArray store.old store.new }
+        ensures obeys { Obeys (code_of G.Group store.old.code) (call self.now) result (state A.CellArray store.old) (state A.CellArray store.new) }
+        ensures takes { TakesStepsOf G.Group A.CellArray (call self.now) result store.old store.new };
 }
 
 // By cases, since a call is data.
@@ -53,25 +53,19 @@ impl<A: CellArray> Request<A> for Access {
 }
 
 impl<G: Group, A: CellArray> Store<G, A> {
-    // Serves a list of calls, and gives their answers in order.
-    pub fn apply<C: Request<A>>(
-        &mut self,
-        heap: Global,
-        calls: &[C],
-    ) -> Result<Vec<Result<u32, StoreFault>>, AllocError>
-        ensures keeps { Keeps A.CellArray.held A.CellArray.intact self.old self.new }
-        ensures promise { IfOk result (λ answers. Promise (G.Group.meaning self.old.code.group) self.old.code.cells (state A.CellArray.cells self.old) (map C.Request.call calls.now) answers.items (state A.CellArray.cells self.new)) }
-        ensures refused { OnErr result (self.new ≡ self.old) }
-        ensures nothing { calls.now ≡ [] → IsOk result }
+    /// Serves the calls of a list in order, and puts the answer of each beside it, over whatever stood there. Every list
+    /// is served to its end, however long, and every call of it answered: a call that is refused alters nothing, and the
+    /// next one is served all the same.
+    pub fn serve_all<C: Request<A>>(&mut self, entries: &mut [Entry<C>])
+        ensures keeps { Keeps A.CellArray self.old self.new }
+        ensures served { ListServed A.CellArray (code_of G.Group self.old.code) C.call
+            self.old.array self.old.ledger entries.old entries.new self.new.array self.new.ledger }
     {
         // The counts have 32 bits, which the proof learns where they are read.
         let _largest = largest(&self.ledger);
-        let mut answers = Vec::with_capacity(heap, calls.len())?;
-        for call in calls {
-            let answer = call.serve(self);
-            answers.push_reserved(answer);
+        for entry in entries.iter_mut() {
+            entry.answer = Some(entry.call.serve(self));
         }
-        Ok(answers)
     }
 }
 

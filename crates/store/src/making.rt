@@ -1,6 +1,7 @@
 // The check of a making: whether a code and an array make a store that has records.
 // The first row that holds is answered, by its own fault.
 ghost use Rattle.std.specs.Prelude.{◌≡◌};
+ghost use Rattle.coset.specs.Codes.{code_of};
 ghost use Rattle.store.specs.Making.{making_number, Makes};
 
 use cells::array::CellArray;
@@ -33,7 +34,7 @@ impl MakingFault {
 
 // Whether a store of these has records, or why it has none.
 pub fn check_making<G: Group, A: CellArray>(code: &Code<G>, array: &A) -> Result<(), MakingFault>
-    ensures { Makes (G.Group.meaning code.now.group) (A.CellArray.cells array.now) code.now.cells result }
+    ensures { Makes (code_of G.Group code.now) (A.cells array.now) result }
 {
     if !code.group.is_usable() {
         return Err(MakingFault::Unusable);

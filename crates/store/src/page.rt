@@ -1,27 +1,33 @@
 // Whole pages: planning every record of a page from empty, and writing the plans into it.
 // A renewal does both, with an erase between them.
-ghost use Rattle.std.specs.Option.{MatchOption};
+ghost use Rattle.std.specs.Prelude.{length, ◌≡◌, ℕ, ◌*◌, ◌<◌, ◌≤◌, false, IsOkAnd, MatchResult};
 ghost use Rattle.coset.specs.Code.{Unreachable, every};
-ghost use Rattle.std.specs.Prelude.{length, ◌≡◌, ℕ, ◌*◌, ◌%◌, ◌<◌, ◌≤◌, false};
 ghost use Rattle.cells.specs.Device.{Kept};
-ghost use Rattle.calls.specs.Records.{records, per_page, page_of};
-ghost use Rattle.store.specs.Steps.{PlansOfPage, PageWritten};
+ghost use Rattle.cells.specs.Chain.{Takes};
+ghost use Rattle.calls.specs.declared.fault.StoreFault.TheVariants.{Unreached};
+ghost use Rattle.calls.specs.Records.{records};
+ghost use Rattle.calls.specs.Steps.{marks_of};
+ghost use Rattle.store.specs.Steps.{PlansForRenewal, PageWritten};
 ghost use Rattle.coset.specs.Codes.{code_of};
 
 use crate::place::{PagePlans, Place};
 use crate::record;
 use crate::store::Store;
 use arrayvec::ArrayVec;
+use calls::fault::{Locate, StoreFault};
 use cells::array::CellArray;
+use cells::fault::DeviceFault;
 use coset::cellset::CellSet;
 use group::interface::Group;
 
 impl<G: Group, A: CellArray> Store<G, A> {
     // The plans of the records of a record's page from empty: its own for a new value, every other for the value that
-    // it holds. None where the new value is out of reach.
-    pub(crate) fn plan_page(&self, record: usize, value: u32) -> Option<PagePlans>
-        requires { «record» < records (code_of G.Group.meaning self.now.code) (A.CellArray.cells self.now.array) }
-        ensures { MatchOption result (Unreachable (code_of G.Group.meaning self.now.code) every value) (λ plans. PlansOfPage (code_of G.Group.meaning self.now.code) (A.CellArray.cells self.now.array) (page_of (code_of G.Group.meaning self.now.code) (A.CellArray.cells self.now.array) «record») («record» % per_page (code_of G.Group.meaning self.now.code) (A.CellArray.cells self.now.array)) value (per_page (code_of G.Group.meaning self.now.code) (A.CellArray.cells self.now.array)) plans.items) }
+    // it holds. Refused where the new value is out of reach.
+    pub(crate) fn plan_page(&self, record: usize, value: u32) -> Result<PagePlans, StoreFault>
+        requires { «record» < records (code_of G.Group self.now.code) (A.cells self.now.array) }
+        ensures { let c = code_of G.Group self.now.code in
+            MatchResult result (λ plans. PlansForRenewal c (A.cells self.now.array) «record» value plans.items)
+            (λ fault. Unreachable c every value × (fault ≡ Unreached «record»)) }
     {
         let records = self.per_page();
         let page = record / records;
@@ -32,14 +38,15 @@ impl<G: Group, A: CellArray> Store<G, A> {
             let target = if r == record % records {
                 value
             } else {
-                self.value_at(Place {
-                    page,
-                    first: r * self.code.cells,
-                })
+                let first = r * self.code.cells;
+                self.value_at(Place { page, first }).located_at(record)?
             };
-            plans.push(self.code.plan(&all, target)?);
+            let Some(plan) = self.code.plan(&all, target) else {
+                return Err(StoreFault::Unreached { record });
+            };
+            plans.push(plan);
         }
-        Some(plans)
+        Ok(plans)
     }
 }
 
@@ -50,19 +57,20 @@ pub(crate) fn write_page<A: CellArray>(
     n: usize,
     page: usize,
     plans: &[CellSet],
-) -> u32
+) -> Result<u32, DeviceFault>
     requires few { n ≤ 63 }
     requires shared { length plans.now ≤ 64 }
-    requires fits { length plans.now * n ≤ (A.CellArray.cells array.old).width }
-    requires page { page < (A.CellArray.cells array.old).pages }
-    requires unset { (j : ℕ) → j < (A.CellArray.cells array.old).width → (A.CellArray.cells array.old).set page j ≡ false }
-    ensures kept { Kept A.CellArray.held A.CellArray.intact array.old array.new }
-    ensures written { PageWritten n page (length plans.now) plans.now (A.CellArray.cells array.old) (A.CellArray.cells array.new) result }
+    requires fits { length plans.now * n ≤ (A.cells array.old).width }
+    requires page { page < (A.cells array.old).pages }
+    requires unset { (j : ℕ) → j < (A.cells array.old).width → (A.cells array.old).set page j ≡ false }
+    ensures kept { Kept A.held A.intact array.old array.new }
+    ensures takes { Takes A.CellArray (marks_of page 0 ((A.cells array.new).set page) (length plans.now * n)) array.old array.new }
+    ensures written { IsOkAnd result (PageWritten n page (length plans.now) plans.now (A.cells array.old) (A.cells array.new)) }
 {
     let mut marked = 0;
     for (r, plan) in plans.iter().enumerate() {
         let at = Place { page, first: r * n };
-        marked += record::write(array, n, at, plan);
+        marked += record::write(array, n, at, plan)?;
     }
-    marked
+    Ok(marked)
 }

@@ -1,105 +1,105 @@
-// The whole promise on one call: a store is made of a code and an array, and a list of calls is applied to it.
-// The array is lent, so that its owner has it again with all that the calls left there.
-ghost use Rattle.std.specs.Prelude.{◌≡◌, [], map, IfOk, OnErr, IsOk};
+//! The whole promise on one call: a store is made of a code and an array, and the calls of a list are served on it.
+//! The array is lent, so that its owner has it again with all that the calls left there. No call here needs memory.
+ghost use Rattle.std.specs.Prelude.{◌≡◌};
 ghost use Rattle.cells.specs.Device.{Kept};
+ghost use Rattle.cells.specs.Chain.{Takes};
 ghost use Rattle.calls.specs.Calls.{state_of, Obeys};
 ghost use Rattle.calls.specs.declared.ledger.Ledger.{Ledger as Counts};
-ghost use Rattle.coset.specs.Codes.{code_of};
 ghost use Rattle.calls.specs.Ledger.{blank};
-ghost use Rattle.calls.specs.Promise.{Promise};
+ghost use Rattle.calls.specs.Steps.{steps_of};
+ghost use Rattle.calls.specs.Lists.{ListServed};
 ghost use Rattle.calls.specs.Accesses.{as_call};
+ghost use Rattle.coset.specs.Codes.{code_of};
 
 use crate::list::Request;
 use crate::store::Store;
-use calls::call::{Access, Call};
+use calls::call::{Access, Call, Entry};
 use calls::fault::StoreFault;
 use calls::ledger::Ledger;
 use cells::array::{CellArray, Erasable};
 use coset::code::Code;
 use group::interface::Group;
-use std::alloc::{AllocError, Global};
 
-// The answers to a list of calls, in order, and what the store counted over them.
-#[derive(Drop)]
-pub struct Run {
-    pub answers: Vec<Result<u32, StoreFault>>,
-    pub ledger: Ledger,
-}
-
-// Makes a store over an array that can be erased, and applies gets, puts and renewals to it.
-pub fn run_calls<G: Group + Drop, A: Erasable>(
-    heap: Global,
+/// Makes a store over an array that can be erased, and serves the gets, puts and renewals of a list: the answer of each
+/// is put beside it. It gives what the store counted. Any group, any array with whatever cells set, any number of cells
+/// to a record and any list are served; where the check of the making refuses, each call is refused by 40.
+pub fn serve_calls<G: Group + Drop, A: Erasable>(
     code: Code<G>,
     array: &mut A,
-    calls: &[Call],
-) -> Result<Run, AllocError>
-    ensures kept { Kept A.CellArray.held A.CellArray.intact array.old array.new }
-    ensures promise { IfOk result (λ run. Promise (G.Group.meaning code.group) code.cells (state_of (A.CellArray.cells array.old) blank) calls.now run.answers.items (state_of (A.CellArray.cells array.new) run.ledger)) }
-    ensures refused { OnErr result (array.new ≡ array.old) }
-    ensures nothing { calls.now ≡ [] → IsOk result }
+    entries: &mut [Entry<Call>],
+) -> Ledger
+    ensures kept { Kept A.held A.intact array.old array.new }
+    ensures served { ListServed A.CellArray (code_of G.Group code) (λ call. call)
+        array.old blank entries.old entries.new array.new result }
 {
-    let (array, run) = apply_to(heap, code, array, calls);
+    let (array, ledger) = serve_over(code, array, entries);
     let _ = array;
-    run
+    ledger
 }
 
-// Makes a store over any cell array, and applies gets and puts to it.
-// It is not one with `run_calls`: that a list is served over every borrow of an array is no bound that can be stated
+/// Makes a store over any cell array, and serves the gets and puts of a list, as `serve_calls` does.
+// It is not one with `serve_calls`: that a list is served over every borrow of an array is no bound that can be stated
 // yet, and where the borrow has a lifetime of its own, the contract cannot speak of the array afterwards.
-pub fn run_accesses<G: Group + Drop, A: CellArray>(
-    heap: Global,
+pub fn serve_accesses<G: Group + Drop, A: CellArray>(
     code: Code<G>,
     array: &mut A,
-    accesses: &[Access],
-) -> Result<Run, AllocError>
-    ensures kept { Kept A.CellArray.held A.CellArray.intact array.old array.new }
-    ensures promise { IfOk result (λ run. Promise (G.Group.meaning code.group) code.cells (state_of (A.CellArray.cells array.old) blank) (map as_call accesses.now) run.answers.items (state_of (A.CellArray.cells array.new) run.ledger)) }
-    ensures refused { OnErr result (array.new ≡ array.old) }
-    ensures nothing { accesses.now ≡ [] → IsOk result }
+    entries: &mut [Entry<Access>],
+) -> Ledger
+    ensures kept { Kept A.held A.intact array.old array.new }
+    ensures served { ListServed A.CellArray (code_of G.Group code) as_call
+        array.old blank entries.old entries.new array.new result }
 {
-    let (array, run) = apply_to(heap, code, array, accesses);
+    let (array, ledger) = serve_over(code, array, entries);
     let _ = array;
-    run
+    ledger
 }
 
-// Makes a store over an array that can be erased, and makes one call on it. It never allocates.
+/// Makes a store over an array that can be erased, and makes one call on it, with the answer of `get`, `put` or `renew`.
 pub fn run_call<G: Group + Drop, A: Erasable>(
     code: Code<G>,
     array: &mut A,
     call: Call,
 ) -> Result<u32, StoreFault>
-    ensures kept { Kept A.CellArray.held A.CellArray.intact array.old array.new }
-    ensures obeys { (counts : Counts) × Obeys (code_of G.Group.meaning code) call result (state_of (A.CellArray.cells array.old) blank) (state_of (A.CellArray.cells array.new) counts) }
+    ensures kept { Kept A.held A.intact array.old array.new }
+    ensures obeys { (counts : Counts) × Obeys (code_of G.Group code) call result
+        (state_of (A.cells array.old) blank) (state_of (A.cells array.new) counts) }
+    ensures takes { Takes A.CellArray (steps_of (code_of G.Group code) call result (A.cells array.old) (A.cells array.new))
+        array.old array.new }
 {
-    let mut store = Store::new(code, array);
-    let answer = call.serve(&mut store);
-    let Store {
-        code: _code,
-        array,
-        ledger: _,
-    } = store;
+    let (array, answer) = call_over(code, array, call);
     let _ = array;
     answer
 }
 
-// Makes a store over an array, applies a list of calls to it, and gives the array back.
-fn apply_to<G: Group + Drop, A: CellArray, C: Request<A>>(
-    heap: Global,
+// Makes a store over an array, serves the calls of a list on it, and gives the array back.
+fn serve_over<G: Group + Drop, A: CellArray, C: Request<A>>(
     code: Code<G>,
     array: A,
-    calls: &[C],
-) -> (A, Result<Run, AllocError>)
-    ensures kept { Kept A.CellArray.held A.CellArray.intact array result.0 }
-    ensures promise { IfOk result.1 (λ run. Promise (G.Group.meaning code.group) code.cells (state_of (A.CellArray.cells array) blank) (map C.Request.call calls.now) run.answers.items (state_of (A.CellArray.cells result.0) run.ledger)) }
-    ensures refused { OnErr result.1 (result.0 ≡ array) }
-    ensures nothing { calls.now ≡ [] → IsOk result.1 }
+    entries: &mut [Entry<C>],
+) -> (A, Ledger)
+    ensures kept { Kept A.held A.intact array result.0 }
+    ensures served { ListServed A.CellArray (code_of G.Group code) C.call
+        array blank entries.old entries.new result.0 result.1 }
 {
     let mut store = Store::new(code, array);
-    let applied = store.apply(heap, calls);
-    let Store {
-        code: _code,
-        array,
-        ledger,
-    } = store;
-    (array, applied.map(|answers| Run { answers, ledger }))
+    store.serve_all(entries);
+    let ledger = store.ledger();
+    (store.into_array(), ledger)
+}
+
+// Makes a store over an array, makes one call on it, and gives the array back.
+fn call_over<G: Group + Drop, A: Erasable>(
+    code: Code<G>,
+    array: A,
+    call: Call,
+) -> (A, Result<u32, StoreFault>)
+    ensures kept { Kept A.held A.intact array result.0 }
+    ensures obeys { (counts : Counts) × Obeys (code_of G.Group code) call result.1
+        (state_of (A.cells array) blank) (state_of (A.cells result.0) counts) }
+    ensures takes { Takes A.CellArray (steps_of (code_of G.Group code) call result.1 (A.cells array) (A.cells result.0))
+        array result.0 }
+{
+    let mut store = Store::new(code, array);
+    let answer = call.serve(&mut store);
+    (store.into_array(), answer)
 }

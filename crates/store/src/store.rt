@@ -9,7 +9,7 @@ ghost use Rattle.coset.specs.Plans.{Plans};
 ghost use Rattle.calls.specs.Ledger.{blank};
 ghost use Rattle.calls.specs.Records.{makes, per_page, records};
 ghost use Rattle.coset.specs.Codes.{code_of};
-ghost use Rattle.store.specs.Keeps.{Keeps, state};
+ghost use Rattle.store.specs.Keeps.{Keeps, TakesStepsOf, state};
 
 use crate::making::check_making;
 use crate::place::{Found, MAX_PER_PAGE};
@@ -42,9 +42,23 @@ impl<G: Group, A: CellArray> Store<G, A> {
         }
     }
 
+    /// The array, with all that the calls left there.
+    pub fn into_array(self) -> A
+    where
+        G: Drop,
+        ensures { result ≡ self.array }
+    {
+        let Store {
+            code: _code,
+            array,
+            ledger: _,
+        } = self;
+        array
+    }
+
     // The records to a page; none where the making's check refuses.
     pub(crate) fn per_page(&self) -> usize
-        ensures { result ≡ (if makes (code_of G.Group.meaning self.now.code) (A.CellArray.cells self.now.array) then per_page (code_of G.Group.meaning self.now.code) (A.CellArray.cells self.now.array) else 0) }
+        ensures { result ≡ (if makes (code_of G.Group self.now.code) (A.cells self.now.array) then per_page (code_of G.Group self.now.code) (A.cells self.now.array) else 0) }
     {
         check_making(&self.code, &self.array).map_or(
             0,
@@ -53,7 +67,7 @@ impl<G: Group, A: CellArray> Store<G, A> {
     }
 
     pub fn records(&self) -> usize
-        ensures { result ≡ records (code_of G.Group.meaning self.now.code) (A.CellArray.cells self.now.array) }
+        ensures { result ≡ records (code_of G.Group self.now.code) (A.cells self.now.array) }
     {
         self.array.pages() * self.per_page()
     }
@@ -61,7 +75,7 @@ impl<G: Group, A: CellArray> Store<G, A> {
     // The fewest cells that are not set and take a record to a value.
     fn plan_to(&self, found: &Found, value: u32) -> Option<CellSet>
         requires { self.now.code.cells ≤ 63 }
-        ensures { Plans (code_of G.Group.meaning self.now.code) (λ i. not (members_of found.now.held i)) (step (G.Group.meaning self.now.code.group) found.now.value value) result }
+        ensures { Plans (code_of G.Group self.now.code) (λ i. not (members_of found.now.held i)) (step (G.Group.meaning self.now.code.group) found.now.value value) result }
     {
         let step = self.code.group.step(found.value, value);
         self.code.plan(&found.held.complement(), step)
@@ -76,7 +90,8 @@ impl<G: Group, A: CellArray> Store<G, A> {
 
     // The value of a record.
     pub fn get(&self, record: usize) -> Result<u32, StoreFault>
-        ensures { Obeys (code_of G.Group.meaning self.now.code) (Get «record») result (state A.CellArray.cells self.now) (state A.CellArray.cells self.now) }
+        ensures obeys { Obeys (code_of G.Group self.now.code) (Get «record») result (state A.CellArray self.now) (state A.CellArray self.now) }
+        ensures takes { TakesStepsOf G.Group A.CellArray (Get «record») result self.now self.now }
     {
         Ok(self.find(record)?.value)
     }
@@ -84,14 +99,17 @@ impl<G: Group, A: CellArray> Store<G, A> {
     // Sets the fewest cells that take a record to a value, and answers how many. A record and a value are two numbers
     // here and below; where there is a list, `Call` holds both.
     pub fn put(&mut self, record: usize, value: u32) -> Result<u32, StoreFault>
-        ensures keeps { Keeps A.CellArray.held A.CellArray.intact self.old self.new }
-        ensures obeys { Obeys (code_of G.Group.meaning self.old.code) (Put «record» value) result (state A.CellArray.cells self.old) (state A.CellArray.cells self.new) }
+        ensures keeps { Keeps A.CellArray self.old self.new }
+        ensures obeys { Obeys (code_of G.Group self.old.code) (Put «record» value) result (state A.CellArray self.old) (state A.CellArray self.new) }
+        ensures takes { TakesStepsOf G.Group A.CellArray (Put «record» value) result self.old self.new }
     {
         let found = self.find_for(record, value)?;
         let Some(plan) = self.plan_to(&found, value) else {
             return Err(StoreFault::Full { record });
         };
-        let marked = record::write(&mut self.array, self.code.cells, found.place, &plan);
+        let marked = record::write(&mut self.array, self.code.cells, found.place, &plan).located_at(
+            record,
+        )?;
         self.ledger.note_put(found.value != value, marked);
         Ok(marked)
     }
@@ -100,20 +118,24 @@ impl<G: Group, A: CellArray> Store<G, A> {
 impl<G: Group, A: Erasable> Store<G, A> {
     // Erases the page of a record, and writes its records again: this one with a new value, the others with theirs.
     pub fn renew(&mut self, record: usize, value: u32) -> Result<u32, StoreFault>
-        ensures keeps { Keeps A.CellArray.held A.CellArray.intact self.old self.new }
-        ensures obeys { Obeys (code_of G.Group.meaning self.old.code) (Renew «record» value) result (state A.CellArray.cells self.old) (state A.CellArray.cells self.new) }
+        ensures keeps { Keeps A.CellArray self.old self.new }
+        ensures obeys { Obeys (code_of G.Group self.old.code) (Renew «record» value) result (state A.CellArray self.old) (state A.CellArray self.new) }
+        ensures takes { TakesStepsOf G.Group A.CellArray (Renew «record» value) result self.old self.new }
     {
         let found = self.find_for(record, value)?;
         // As a pattern, which tells the proof that there is no plan.
         let None = self.plan_to(&found, value) else {
             return Err(StoreFault::Fits { record });
         };
-        let Some(plans) = self.plan_page(record, value) else {
-            return Err(StoreFault::Unreached { record });
-        };
+        let plans = self.plan_page(record, value)?;
         let page = found.place.page;
         self.array.erase(page).located_at(record)?;
-        let marked = page::write_page(&mut self.array, self.code.cells, page, plans.as_slice());
+        let marked = page::write_page(
+            &mut self.array,
+            self.code.cells,
+            page,
+            plans.as_slice(),
+        ).located_at(record)?;
         self.ledger.note_renewal(marked);
         Ok(marked)
     }

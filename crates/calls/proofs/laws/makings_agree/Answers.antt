@@ -10,7 +10,7 @@ size_fits n some few (inl none) = omega arith
 size_fits n some few (inr many) = omega arith
 
 pub returns : goal.returns
-returns c = λ g m n. (
+returns c = λ code m. let n = code.cells in let g = code.group in (
   λ made.
       let usable = and_parts (not (eqb g.order unusable)) _ made in
       let some = and_parts (ltb 0 n) _ usable.1 in

@@ -1,4 +1,3 @@
-use Rattle.std.proofs.Common.{◌≡◌, length}
 use Rattle.coset.specs.CellSets.{members_of}
 use Rattle.coset.specs.Code.{code}
 use Rattle.coset.specs.Plans.{Filled}
@@ -6,5 +5,4 @@ use Rattle.coset.proofs.planner.Search.fill.Given as goal
 
 abbrev pub invariant-loop-cell : goal.invariant-loop-cell
 invariant-loop-cell g l =
-    (length l.table.rows ≡ 64)
-    × Filled (code (g.G.Group.meaning l.self.code.now.group) l.self.cells) (members_of l.self.free.now) l.table l.cell
+    Filled (code (g.G.Group.meaning l.self.code.now.group) l.self.cells) (members_of l.self.free.now) l.table l.cell

@@ -38,6 +38,5 @@ returns c =
     record {
       kept = (refl, erase_intact l c.args.page xs ys there.1 (omega arith) bytes);
       erases = ((worn.0.0, (λ most. omega arith, tt)), part_erased l c.args.page xs ys there.0 there.1 (omega arith) bytes);
-      layout = refl;
-      bytes = bytes;
+      step = (refl, (refl, bytes));
     }

@@ -8,4 +8,4 @@ returns g c =
     let done =
     mark_done g.K.Kind.FORMAT c.args.self.now.layout c.args.self.now.image.now c.args.page c.args.cell c.in_ok-at.at
     c.with_set.result found (rw c.FORMAT.ensures at c.with_set.ensures) in
-    record { kept = (refl, done.2); marks = (found.0, done.0); layout = refl; bytes = done.1 }
+    record { kept = (refl, done.2); marks = (found.0, done.0); step = (refl, done.1) }

@@ -5,4 +5,4 @@ use Rattle.store.proofs.store.Store.plan_page.Given as goal
 
 abbrev pub invariant-loop-r : goal.invariant-loop-r
 invariant-loop-r g l =
-    PlansOfPage (code_of g.G.Group.meaning l.self.code) (g.A.CellArray.cells l.self.array) l.page (l.«record» % l.records) l.value l.r l.plans.items
+    PlansOfPage (code_of g.G.Group l.self.code) (g.A.CellArray.cells l.self.array) l.page (l.«record» % l.records) l.value l.r l.plans.items
