@@ -1,6 +1,6 @@
 -- From the checks of a call on an image to what it answers. Assumes nothing.
 use Rattle.std.proofs.Common.{◌≡◌, ℕ, ◌<◌, List, [], ◌∷◌, get_or, IsErr, Ok, Err, Result, inl, inr, refl, sym, ap, ◌∙◌, subst}
-use Rattle.group.specs.Group.{Group, Lawful}
+use Rattle.group.specs.Group.{Lawful}
 use Rattle.cells.specs.Cells.{Cells}
 use Rattle.cells.specs.Rows.{Row, Refused, Served}
 use Rattle.images.specs.declared.format.Format.TheVariants.{Flash}
@@ -12,7 +12,7 @@ use Rattle.images.specs.Written.{Writable, written}
 use Rattle.images.proofs.Accepted.{accepted}
 use Rattle.images.proofs.Intact.{reads_accepted}
 use Rattle.images.proofs.Tables.{served_both, refused_first, refused_rest}
-use Rattle.coset.specs.Code.{code}
+use Rattle.coset.specs.Code.{Code, LabelledInTurn}
 use Rattle.calls.specs.declared.call.Call.{Call}
 use Rattle.calls.specs.declared.call.Call.TheVariants.{Get}
 use Rattle.calls.specs.declared.fault.StoreFault.{StoreFault}
@@ -20,8 +20,8 @@ use Rattle.calls.specs.declared.ledger.Ledger.{Ledger}
 use Rattle.calls.specs.Ledger.{blank}
 use Rattle.calls.specs.Faults.{number}
 use Rattle.calls.specs.Records.{making_rows}
-use Rattle.calls.specs.Calls.{State, state_of, Obeys}
-use Rattle.c_entry.specs.Entry.{entry_rows, ServedOn, RefusedOn, Answers, answer_number, CallsOnImage}
+use Rattle.calls.specs.Calls.{State, state_of, rows, Obeys}
+use Rattle.c_entry.specs.Entry.{opening_rows, entry_rows, ServedOn, RefusedOn, Answers, answer_number, CallsOnImage}
 use Rattle.c_entry.specs.Faults.{entry_number}
 use Rattle.c_entry.specs.declared.fault.EntryFault.{EntryFault}
 use Rattle.c_entry.proofs.Sizes.{small_answer}
@@ -44,60 +44,68 @@ pub check_refuses : (xs : List ℕ) (r : Result Layout ImageFault) → Checks Fl
 check_refuses xs (Ok l) checks bad = absurd (bad checks.0)
 check_refuses xs (Err e) checks bad = refl
 
-module _ (g : Group) (n : ℕ) (call : Call) (xs : List ℕ) where
+module _ (c : Code) (call : Call) (xs : List ℕ) where
+  abbrev making : List Row
+  making = making_rows c (decoded Flash xs)
+
+  abbrev own : List Row
+  own = rows c (decoded Flash xs) call
+
   -- an image that is refused
-  pub image_refused : (k : ℕ) → Refused (image_rows Flash xs) k → Refused (entry_rows g n call xs) k
-  image_refused k refused = refused_first (image_rows Flash xs) _ k refused
+  pub image_refused : (k : ℕ) → Refused (image_rows Flash xs) k → Refused (entry_rows c call xs) k
+  image_refused k refused = refused_first (opening_rows c xs) own k (refused_first (image_rows Flash xs) making k refused)
 
   module _ (good : Served (image_rows Flash xs)) where
     -- a making that is refused
-    pub making_refused : (k : ℕ) → Refused (making_rows g (decoded Flash xs) n) k → Refused (entry_rows g n call xs) k
-    making_refused k refused = refused_rest (image_rows Flash xs) _ k good (refused_first (making_rows g (decoded Flash xs) n) _ k refused)
+    pub making_refused : (k : ℕ) → Refused (making_rows c (decoded Flash xs)) k → Refused (entry_rows c call xs) k
+    making_refused k refused = refused_first (opening_rows c xs) own k (refused_rest (image_rows Flash xs) making k good refused)
 
     -- What a store answers over the part of the image, whose meaning before and afterwards is m and m'.
     module _
-        (laws : Lawful g) (exact : Writable Flash (decoded Flash xs) × (xs ≡ written Flash (decoded Flash xs))) (makes : Served (making_rows g (decoded Flash xs) n))
-        (l' : Layout) (ys : List ℕ) (still : Accepted Flash l' ys) (bytes : (i : ℕ) → get_or ys i 0 < 256) (counts : Ledger) where
+        (laws : Lawful c.group) (labels : LabelledInTurn c) (exact : Writable Flash (decoded Flash xs) × (xs ≡ written Flash (decoded Flash xs)))
+        (makes : Served (making_rows c (decoded Flash xs))) (l' : Layout) (ys : List ℕ) (still : Accepted Flash l' ys)
+        (bytes : (i : ℕ) → get_or ys i 0 < 256) (counts : Ledger) where
       after : part_cells Flash l' ys ≡ decoded Flash ys
       after = (reads_accepted Flash ys l' still).accepted still.0
 
       after_bytes : ys ≡ written Flash (decoded Flash ys)
       after_bytes = accepted Flash ys bytes still.0
 
+      opened : Served (opening_rows c xs)
+      opened = served_both (image_rows Flash xs) making good makes
+
       pub call_served :
-          (a : ℕ) → Obeys (code g n) call (Ok a) (state_of (decoded Flash xs) blank) (state_of (part_cells Flash l' ys) counts) →
-          ServedOn g n call xs ys a
+          (a : ℕ) → Obeys c call (Ok a) (state_of (decoded Flash xs) blank) (state_of (part_cells Flash l' ys) counts) →
+          ServedOn c call xs ys a
       call_served a obeys =
-          let obeyed : Obeys (code g n) call (Ok a) (state_of (decoded Flash xs) blank) (state_of (decoded Flash ys) counts) =
-          subst (λ m. Obeys (code g n) call (Ok a) (state_of (decoded Flash xs) blank) (state_of m counts)) after obeys in
+          let obeyed : Obeys c call (Ok a) (state_of (decoded Flash xs) blank) (state_of (decoded Flash ys) counts) =
+          subst (λ m. Obeys c call (Ok a) (state_of (decoded Flash xs) blank) (state_of m counts)) after obeys in
           record {
-            served = served_both (image_rows Flash xs) _ good (served_both (making_rows g (decoded Flash xs) n) _ makes obeyed.0);
+            served = served_both (opening_rows c xs) own opened obeyed.0;
             counts = counts;
             obeys = obeyed;
             good = still.0;
             written_before = exact.1;
             written_after = after_bytes;
-            small = small_answer g laws (decoded Flash xs) exact.0.width_most n makes call a (decoded Flash ys) obeyed.1;
+            small = small_answer c laws labels (decoded Flash xs) exact.0.width_most makes call a (decoded Flash ys) obeyed.1;
           }
 
       pub call_refused :
-          (f : StoreFault) → Obeys (code g n) call (Err f) (state_of (decoded Flash xs) blank) (state_of (part_cells Flash l' ys) counts) →
-          RefusedOn g n call xs ys (number f)
+          (f : StoreFault) → Obeys c call (Err f) (state_of (decoded Flash xs) blank) (state_of (part_cells Flash l' ys) counts) →
+          RefusedOn c call xs ys (number f)
       call_refused f obeys =
           let same : part_cells Flash l' ys ≡ decoded Flash xs = ap (λ (s : State). s.cells) obeys.2 in
           record {
-            refused =
-                refused_rest (image_rows Flash xs) _ (number f) good
-                (refused_rest (making_rows g (decoded Flash xs) n) _ (number f) makes obeys.0);
+            refused = refused_rest (opening_rows c xs) own (number f) opened obeys.0;
             unchanged = after_bytes ∙ ap (written Flash) (sym after ∙ same) ∙ sym exact.1;
           }
 
 -- the number that stands for an answer
-pub calls_on_image : (g : Group) (n : ℕ) (call : Call) (xs ys : List ℕ) (r : Result ℕ EntryFault) → Answers g n call xs ys r → CallsOnImage g n call xs ys (answer_number r)
-calls_on_image g n call xs ys (Ok a) served = inl served
-calls_on_image g n call xs ys (Err f) refused = inr (entry_number f, refused, refl)
+pub calls_on_image : (c : Code) (call : Call) (xs ys : List ℕ) (r : Result ℕ EntryFault) → Answers c call xs ys r → CallsOnImage c call xs ys (answer_number r)
+calls_on_image c call xs ys (Ok a) served = inl served
+calls_on_image c call xs ys (Err f) refused = inr (entry_number f, refused, refl)
 
 -- a get alters no byte: the image is the writing-out of its cells, and these are as they were
-pub get_alters_nothing : (g : Group) (n k : ℕ) (xs ys : List ℕ) (a : ℕ) → CallsOnImage g n (Get k) xs ys a → ys ≡ xs
-get_alters_nothing g n k xs ys a (inl served) = served.written_after ∙ ap (written Flash) served.obeys.1.1 ∙ sym served.written_before
-get_alters_nothing g n k xs ys a (inr refused) = refused.1.unchanged
+pub get_alters_nothing : (c : Code) (k : ℕ) (xs ys : List ℕ) (a : ℕ) → CallsOnImage c (Get k) xs ys a → ys ≡ xs
+get_alters_nothing c k xs ys a (inl served) = served.written_after ∙ ap (written Flash) served.obeys.1.1 ∙ sym served.written_before
+get_alters_nothing c k xs ys a (inr refused) = refused.1.unchanged

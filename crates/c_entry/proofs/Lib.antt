@@ -1,2 +1,3 @@
 pub mod Sizes
 pub mod Entering
+pub mod Together

@@ -1,11 +1,11 @@
 -- That no answer of a call is above 1,024. Assumes nothing.
-use Rattle.std.proofs.Common.{ℕ, zero, suc, ◌*◌, ◌<◌, ◌≤◌, inr, suc-mul, arith}
-use Rattle.group.specs.Group.{Group, Lawful, Usable}
+use Rattle.std.proofs.Common.{ℕ, zero, suc, ◌*◌, ◌<◌, ◌≤◌, inr, sym, subst, suc-mul, arith}
+use Rattle.group.specs.Group.{Lawful, In}
 use Rattle.cells.specs.Cells.{Cells}
 use Rattle.cells.specs.Rows.{Served}
 use Rattle.cells.specs.Sets.{Cellset}
 use Rattle.cells.proofs.Sizes.{size_le}
-use Rattle.coset.specs.Code.{code}
+use Rattle.coset.specs.Code.{Code, LabelledInTurn}
 use Rattle.coset.proofs.Sums.{sum_in, label_in}
 use Rattle.calls.specs.declared.call.Call.{Call}
 use Rattle.calls.specs.declared.call.Call.TheVariants.{Get, Put, Renew}
@@ -23,22 +23,23 @@ sizes_le n sets (suc b) =
     let product = suc-mul b n in
     omega arith
 
-module _ (g : Group) (laws : Lawful g) (m : Cells) (narrow : m.width ≤ 1024) (n : ℕ) (makes : Served (making_rows g m n)) where
-  usable : Usable g
-  usable = makes.0
+module _ (c : Code) (laws : Lawful c.group) (labels : LabelledInTurn c) (m : Cells) (narrow : m.width ≤ 1024) (makes : Served (making_rows c m)) where
+  few : c.cells ≤ 63
+  few = let more : 63 < c.cells → ⊥ = λ h. makes.1.0 (inr h) in omega arith
 
-  few : n ≤ 63
-  few = let more : 63 < n → ⊥ = λ h. makes.1.0 (inr h) in omega arith
+  -- each label is that of the rules, so an element
+  label_below : (i : ℕ) → In c.group (c.label i)
+  label_below i = subst (In c.group) (sym (labels i)) (label_in c.group laws c.cells i)
 
-  pub small_answer : (call : Call) (a : ℕ) (after : Cells) → Serves (code g n) call a m after → a ≤ 1024
+  pub small_answer : (call : Call) (a : ℕ) (after : Cells) → Serves c call a m after → a ≤ 1024
   small_answer (Get k) a after serves =
-      let inside = sum_in (code g n) laws usable (label_in g laws n) (held (code g n) m k) n in
+      let inside = sum_in c laws makes.0 label_below (held c m k) c.cells in
       let most = laws.most in
       omega (arith, serves.0)
   small_answer (Put k x) a after serves =
-      let most = size_le serves.0 n in
+      let most = size_le serves.0 c.cells in
       omega (arith, serves.3, few)
   small_answer (Renew k x) a after serves =
-      let most = sizes_le n serves.plans (per_page (code g n) m) in
-      let fits = page_fits n m.width (per_page (code g n) m) (omega arith) in
+      let most = sizes_le c.cells serves.plans (per_page c m) in
+      let fits = page_fits c.cells m.width (per_page c m) (omega arith) in
       omega (arith, serves.counted)

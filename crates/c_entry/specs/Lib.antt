@@ -1,2 +1,3 @@
 pub mod Faults
 pub mod Entry
+pub mod Together

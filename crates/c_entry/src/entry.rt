@@ -1,7 +1,8 @@
 // One call on an image: the checks of the image, of the making and of the call in this order, and then the call.
 // Nothing but the image is remembered from one call to the next, and nothing allocates.
 ghost use Rattle.std.specs.Prelude.{◌≡◌};
-ghost use Rattle.c_entry.specs.Entry.{group_named, Answers, CallsOnImage, answer_number};
+ghost use Rattle.coset.specs.Code.{code};
+ghost use Rattle.c_entry.specs.Entry.{code_named, Answers, CallsOnImage, answer_number};
 
 use crate::fault::EntryFault;
 use calls::call::Call;
@@ -20,7 +21,7 @@ const REFUSED: u32 = 10_000;
 // Makes a call with the group of a kind and a parameter. Each kind has a call of its own, so that the compiler makes
 // code for its group.
 pub(crate) fn enter(kind: u32, parameter: u32, n: u32, call: Call, image: &mut [u8]) -> u32
-    ensures { CallsOnImage (group_named kind parameter) n call image.old image.new result }
+    ensures { CallsOnImage (code_named kind parameter n) call image.old image.new result }
 {
     let n = n as usize;
     number_of(match kind {
@@ -37,7 +38,7 @@ fn serve<G: Group + Drop>(
     call: Call,
     image: &mut [u8],
 ) -> Result<u32, EntryFault>
-    ensures { Answers (G.Group.meaning group) n call image.old image.new result }
+    ensures { Answers (code (G.meaning group) n) call image.old image.new result }
 {
     let mut part = FlashPart::over(image);
     // No image that is good is without pages. So a good one is checked once, and a bad one again to ask why.

@@ -4,10 +4,11 @@
 
 mod entry;
 mod fault;
+pub mod laws;
 
 ghost use Rattle.std.specs.Prelude.{◌≡◌};
 ghost use Rattle.calls.specs.declared.call.Call.TheVariants.{Get, Put, Renew};
-ghost use Rattle.c_entry.specs.Entry.{group_named, CallsOnImage};
+ghost use Rattle.c_entry.specs.Entry.{code_named, CallsOnImage};
 
 use crate::entry::enter;
 use calls::call::Call;
@@ -22,7 +23,7 @@ pub extern "C" fn record_store_get(
     record: u32,
     image: &mut [u8],
 ) -> u32
-    ensures answers { CallsOnImage (group_named kind parameter) n (Get «record») image.old image.new result }
+    ensures answers { CallsOnImage (code_named kind parameter n) (Get «record») image.old image.new result }
     ensures same { image.new ≡ image.old }
 {
     let record = record as usize;
@@ -39,7 +40,7 @@ pub extern "C" fn record_store_put(
     value: u32,
     image: &mut [u8],
 ) -> u32
-    ensures { CallsOnImage (group_named kind parameter) n (Put «record» value) image.old image.new result }
+    ensures { CallsOnImage (code_named kind parameter n) (Put «record» value) image.old image.new result }
 {
     let record = record as usize;
     enter(kind, parameter, n, Call::Put { record, value }, image)
@@ -56,7 +57,7 @@ pub extern "C" fn record_store_renew(
     value: u32,
     image: &mut [u8],
 ) -> u32
-    ensures { CallsOnImage (group_named kind parameter) n (Renew «record» value) image.old image.new result }
+    ensures { CallsOnImage (code_named kind parameter n) (Renew «record» value) image.old image.new result }
 {
     let record = record as usize;
     enter(kind, parameter, n, Call::Renew { record, value }, image)

@@ -1,5 +1,5 @@
 -- Calls made singly, each on a store of its own, keep the promise together. Assumes nothing.
-use Rattle.std.proofs.Common.{◌≡◌, List, [], ◌∷◌, map, Ok, Err, refl, ap, subst₂, arith}
+use Rattle.std.proofs.Common.{◌≡◌, List, [], ◌∷◌, map, Ok, Err, refl, ap, ◌∙◌, subst₂, arith}
 use Rattle.calls.specs.declared.ledger.Ledger.{Ledger}
 use Rattle.calls.specs.declared.call.Call.{Call}
 use Rattle.cells.specs.Cells.{Cells}
@@ -10,7 +10,7 @@ use Rattle.calls.specs.Calls.{State, Answer, state_of, record_of, Obeys}
 use Rattle.calls.specs.History.{Event, Linked, LinkedCells, Every}
 use Rattle.calls.specs.Promise.{Promise, SingleCallsSuffice}
 use Rattle.calls.proofs.Parts.{Rules}
-use Rattle.calls.proofs.Promised.{rules_suffice}
+use Rattle.calls.proofs.Promised.{promised}
 
 module _ (c : Code) where
   -- the ledger after an event, if it was l before
@@ -58,12 +58,29 @@ module _ (c : Code) where
   its_answers l [] = refl
   its_answers l (e ∷ es) = ap (λ cs. e.answer ∷ cs) (its_answers (next e l) es)
 
+  cells_before : (l : Ledger) (es : List Event) → map (λ (e : Event). e.before.cells) (told l es) ≡ map (λ (e : Event). e.before.cells) es
+  unfolding told
+  cells_before l [] = refl
+  cells_before l (e ∷ es) = ap (λ ms. e.before.cells ∷ ms) (cells_before (next e l) es)
+
+  cells_after : (l : Ledger) (es : List Event) → map (λ (e : Event). e.after.cells) (told l es) ≡ map (λ (e : Event). e.after.cells) es
+  unfolding told
+  cells_after l [] = refl
+  cells_after l (e ∷ es) = ap (λ ms. e.after.cells ∷ ms) (cells_after (next e l) es)
+
 pub single_calls_suffice : SingleCallsSuffice
-single_calls_suffice c lawful labels first made last on all = (
-  counted c blank made,
-  subst₂ (λ calls answers. Promise c (state_of first blank) calls answers (state_of last (counted c blank made)))
-      (its_calls c blank made) (its_answers c blank made)
-      (rules_suffice c lawful labels (state_of first blank) (told c blank made) (state_of last (counted c blank made))
-      (record { changes = omega arith; renewals = omega arith; marked = omega arith })
-      (linked c blank made first last on) (all_obeyed c blank made all)),
-)
+single_calls_suffice c lawful labels first made last on all =
+    let counts = counted c blank made in
+    let kept =
+    promised c lawful labels (state_of first blank) (told c blank made) (state_of last counts)
+    (record { changes = omega arith; renewals = omega arith; marked = omega arith }) (linked c blank made first last on)
+    (all_obeyed c blank made all) in
+    let all_kept =
+    subst₂
+    (λ calls answers.
+        (p : Promise c (state_of first blank) calls answers (state_of last counts))
+        × (map (λ (e : Event). e.before.cells) p.history ≡ map (λ (e : Event). e.before.cells) made)
+        × (map (λ (e : Event). e.after.cells) p.history ≡ map (λ (e : Event). e.after.cells) made))
+    (its_calls c blank made) (its_answers c blank made)
+    (kept.0, ap (map (λ (e : Event). e.before.cells)) kept.1 ∙ cells_before c blank made, ap (map (λ (e : Event). e.after.cells)) kept.1 ∙ cells_after c blank made) in
+    (counts, all_kept.0, all_kept.1, all_kept.2)

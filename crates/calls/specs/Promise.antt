@@ -97,10 +97,13 @@ RulesSuffice =
     Promise c first (map (λ (e : Event). e.call) history) (map (λ (e : Event). e.answer) history) last
 
 -- The same of calls that were made singly, each on a store of its own with a ledger of its own, over the same cells:
--- they keep the promise together, with what one ledger would have counted.
+-- they keep the promise together, with what one ledger would have counted. Its history has the cells before and after
+-- each of these calls.
 abbrev pub SingleCallsSuffice : Type 0
 SingleCallsSuffice =
     (c : Code) → Lawful c.group → LabelledInTurn c → (first : Cells) (made : List Event) (last : Cells) →
     LinkedCells first made last → Every (λ e. Obeys c e.call e.answer e.before e.after) made →
     (counts : Ledger)
-    × Promise c (state_of first blank) (map (λ (e : Event). e.call) made) (map (λ (e : Event). e.answer) made) (state_of last counts)
+    × (p : Promise c (state_of first blank) (map (λ (e : Event). e.call) made) (map (λ (e : Event). e.answer) made) (state_of last counts))
+    × (map (λ (e : Event). e.before.cells) p.history ≡ map (λ (e : Event). e.before.cells) made)
+    × (map (λ (e : Event). e.after.cells) p.history ≡ map (λ (e : Event). e.after.cells) made)

@@ -1,4 +1,4 @@
-use Rattle.std.proofs.Common.{◌≡◌, ℕ, ◌<◌, get_or, Ok, Err, ap, sym, ◌∙◌, subst}
+use Rattle.std.proofs.Common.{◌≡◌, ℕ, ◌<◌, get_or, Ok, Err, refl, ap, sym, ◌∙◌, subst}
 use Rattle.std.proofs.lemmas.Result.{err_from_is_err_and}
 use Rattle.cells.specs.Rows.{Refused, Served}
 use Rattle.images.specs.declared.format.Format.TheVariants.{Flash}
@@ -23,21 +23,21 @@ unwrap_err-fault-requires g c =
 
 pub returns-then-pages-eq0 : goal.returns-then-pages-eq0
 returns-then-pages-eq0 g c =
-    let group = g.G.Group.meaning c.args.group in
+    let co = code (g.G.Group.meaning c.args.group) c.args.n in
     let part = c.over-part.result in
     let over = c.over-part.ensures in
     let refused : Refused (image_rows Flash part.image.now) (image_number c.unwrap_err-fault.result) =
     subst (λ r. Checks Flash part.image.now r) c.unwrap_err-fault.ensures c.check.ensures in
     record {
       refused =
-          image_refused group c.args.n c.args.call c.args.image.now _
+          image_refused co c.args.call c.args.image.now _
           (subst (λ bytes. Refused (image_rows Flash bytes) (image_number c.unwrap_err-fault.result)) over.bytes refused);
       unchanged = c.image-1.given.1.1 (sym over.lent) ∙ over.bytes;
     }
 
 pub returns-in_err-check_making : goal.returns-in_err-check_making
 returns-in_err-check_making g c =
-    let group = g.G.Group.meaning c.args.group in
+    let co = code (g.G.Group.meaning c.args.group) c.args.n in
     let xs = c.args.image.now in
     let part = c.over-part.result in
     let over = c.over-part.ensures in
@@ -49,14 +49,14 @@ returns-in_err-check_making g c =
     rw (p.1, p.2)
     (record {
       refused =
-          making_refused group c.args.n c.args.call xs good _
-          (subst (λ m. Refused (making_rows group m c.args.n) (making_number c.in_err-check_making.field-0.0)) means c.in_err-check_making.ensures);
+          making_refused co c.args.call xs good _
+          (subst (λ m. Refused (making_rows co m) (making_number c.in_err-check_making.field-0.0)) means c.in_err-check_making.ensures);
       unchanged = c.in_err-check_making.image-in-Break-1-own.given.1.1 (sym over.lent) ∙ over.bytes;
     })
 
 pub returns-in_err-run_call : goal.returns-in_err-run_call
 returns-in_err-run_call g c =
-    let group = g.G.Group.meaning c.args.group in
+    let co = code (g.G.Group.meaning c.args.group) c.args.n in
     let xs = c.args.image.now in
     let part = c.over-part.result in
     let over = c.over-part.ensures in
@@ -74,14 +74,14 @@ returns-in_err-run_call g c =
     let obeys = c.in_err-run_call.ensures.obeys in
     let p = err_from_is_err_and c.from_residual-in_err-run_call.result c.from_residual-in_err-run_call.ensures.1 in
     rw (p.1, p.2, same)
-    (call_refused group c.args.n c.args.call xs good (g.met.G.Group.lawful c.args.group) (over.written good)
-    (subst (λ m. Served (making_rows group m c.args.n)) means c.in_ok-check_making.ensures) part'.layout part'.image.now still bytes obeys.0
+    (call_refused co c.args.call xs good (g.met.G.Group.lawful c.args.group) (λ i. refl) (over.written good)
+    (subst (λ m. Served (making_rows co m)) means c.in_ok-check_making.ensures) part'.layout part'.image.now still bytes obeys.0
     c.in_err-run_call.field-0.0
-    (subst (λ m. Obeys (code group c.args.n) c.args.call (Err c.in_err-run_call.field-0.0) (state_of m blank) (state_of (part_cells Flash part'.layout part'.image.now) obeys.0)) means obeys.1))
+    (subst (λ m. Obeys co c.args.call (Err c.in_err-run_call.field-0.0) (state_of m blank) (state_of (part_cells Flash part'.layout part'.image.now) obeys.0)) means obeys.1))
 
 pub returns : goal.returns
 returns g c =
-    let group = g.G.Group.meaning c.args.group in
+    let co = code (g.G.Group.meaning c.args.group) c.args.n in
     let xs = c.args.image.now in
     let part = c.over-part.result in
     let over = c.over-part.ensures in
@@ -98,7 +98,7 @@ returns g c =
     let bytes = subst (λ ys. (i : ℕ) → get_or ys i 0 < 256) same (λ i. (c.type_inv.image i).fits) in
     let obeys = c.in_ok-run_call.ensures.obeys in
     rw same
-    (call_served group c.args.n c.args.call xs good (g.met.G.Group.lawful c.args.group) (over.written good)
-    (subst (λ m. Served (making_rows group m c.args.n)) means c.in_ok-check_making.ensures) part'.layout part'.image.now still bytes obeys.0
+    (call_served co c.args.call xs good (g.met.G.Group.lawful c.args.group) (λ i. refl) (over.written good)
+    (subst (λ m. Served (making_rows co m)) means c.in_ok-check_making.ensures) part'.layout part'.image.now still bytes obeys.0
     c.in_ok-run_call.field-0
-    (subst (λ m. Obeys (code group c.args.n) c.args.call (Ok c.in_ok-run_call.field-0) (state_of m blank) (state_of (part_cells Flash part'.layout part'.image.now) obeys.0)) means obeys.1))
+    (subst (λ m. Obeys co c.args.call (Ok c.in_ok-run_call.field-0) (state_of m blank) (state_of (part_cells Flash part'.layout part'.image.now) obeys.0)) means obeys.1))
