@@ -43,13 +43,13 @@ pub fn serve_calls<G: Group + Drop, A: Erasable>(
 pub fn serve_accesses<G: Group + Drop, A: CellArray>(
     code: Code<G>,
     array: &mut A,
-    entries: &mut [Entry<Access>],
+    accesses: &mut [Entry<Access>],
 ) -> Ledger
     ensures kept { Kept A.held A.intact array.old array.new }
     ensures served { ListServed A.CellArray (code_of G.Group code) as_call
-        array.old blank entries.old entries.new array.new result }
+        array.old blank accesses.old accesses.new array.new result }
 {
-    let (array, ledger) = serve_over(code, array, entries);
+    let (array, ledger) = serve_over(code, array, accesses);
     let _ = array;
     ledger
 }

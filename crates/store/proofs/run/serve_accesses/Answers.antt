@@ -13,7 +13,7 @@ returns-clause-served g c =
     let made = c.serve_over-array.ensures.served in
     let after = c.serve_over-array.result.0 in
     let counts = c.serve_over-array.result.1 in
-    let asked = c.args.entries.now in
+    let asked = c.args.accesses.now in
     let served = c.serve_over-array.new.entries in
     let all : ListServed array (code_of g.G.Group c.args.code) as_call c.args.array.now blank asked served after.now counts =
     lent_list array (code_of g.G.Group c.args.code) as_call _ blank asked served after counts made.answers made.calls_kept made.all_answered
