@@ -1,8 +1,7 @@
 -- What the lines after the head do: the calls that they make on a store, and what is printed of the answers.
 -- Assumes nothing.
 use Rattle.std.specs.Prelude.{◌≡◌, ℕ, ◌⊎◌, List, [], ◌∷◌, ◌++◌, Ok, Err, Result}
-use Rattle.group.specs.Group.{Group}
-use Rattle.coset.specs.Code.{Code, code}
+use Rattle.coset.specs.Code.{Code}
 use Rattle.calls.specs.declared.call.Call.{Call}
 use Rattle.calls.specs.declared.call.Call.TheVariants.{Get, Put, Renew}
 use Rattle.calls.specs.declared.fault.StoreFault.{StoreFault}
@@ -123,9 +122,10 @@ abbrev pub reply_of : Result Reply ScriptFault → Reply
 reply_of (Ok r) = r
 reply_of (Err f) = Refused f
 
--- All the lines were answered by a store in the state `first`. It printed its number of records, then their replies.
-pub record Answered (g : Group) (n : ℕ) (first : State) (lines : List (List ℕ × ℕ)) (out : List Reply) : Type 0 where
+-- All the lines were answered by a store with the code c in the state `first`. It printed its number of records, then
+-- their replies.
+pub record Answered (c : Code) (first : State) (lines : List (List ℕ × ℕ)) (out : List Reply) : Type 0 where
   pub last : State
   pub others : List Reply
-  pub prints : out ≡ Made (records (code g n) first.cells) ∷ others
-  pub execution : Execution (code g n) (λ h. ExecutesLines lines first h others) first last
+  pub prints : out ≡ Made (records c first.cells) ∷ others
+  pub execution : Execution c (λ h. ExecutesLines lines first h others) first last

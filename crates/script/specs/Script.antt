@@ -5,7 +5,7 @@ use Rattle.group.specs.Group.{unusable}
 use Rattle.cells.specs.Cells.{Alike}
 use Rattle.cells.specs.Rows.{Served}
 use Rattle.images.specs.Fresh.{blank as fresh_cells, fresh_rows}
-use Rattle.coset.specs.Code.{code}
+use Rattle.coset.specs.Code.{Code, code}
 use Rattle.calls.specs.declared.call.Call.{Call}
 use Rattle.calls.specs.Records.{records}
 use Rattle.calls.specs.Ledger.{blank as blank_ledger}
@@ -31,6 +31,10 @@ use Rattle.script.specs.Faults.{cause_number}
 use Rattle.script.specs.Lines.{numbered}
 use Rattle.script.specs.Execution.{refusal, ExecutesLines}
 
+-- the code that a heading names
+abbrev pub code_named : Head GroupWord Number → Code
+code_named h = code (word_group h.group) h.n.value
+
 -- What refuses a heading, in the order of the checks, each at its word.
 abbrev pub heading_rows : Head GroupWord Number → List PlacedRow
 heading_rows h =
@@ -50,9 +54,9 @@ pub record MadeStore (h : Head GroupWord Number) (lines : List (List ℕ × ℕ)
   pub nothing_counted : first.ledger ≡ blank_ledger
   pub calls : List Call
   pub answers : List Answer
-  pub promise : Promise (word_group h.group) h.n.value first calls answers last
+  pub promise : Promise (code_named h) first calls answers last
   pub others : List Reply
-  pub prints : out ≡ Made (records (code (word_group h.group) h.n.value) first.cells) ∷ others
+  pub prints : out ≡ Made (records (code_named h) first.cells) ∷ others
   pub executes : ExecutesLines lines first promise.history others
 
 -- a head that is not well written, at line k

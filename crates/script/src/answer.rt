@@ -1,8 +1,6 @@
 // One line after the head: its order is read, its calls are made, and the reply is what they answered.
 // A refused line makes no call.
 ghost use Rattle.std.specs.Prelude.{◌≡◌, Decides, MatchResult, IsOkAnd};
-ghost use Rattle.coset.specs.Code.{code};
-ghost use Rattle.calls.specs.Calls.{state_of};
 ghost use Rattle.calls.specs.History.{RefusedFull};
 ghost use Rattle.coset.specs.Codes.{code_of};
 ghost use Rattle.store.specs.Keeps.{Keeps, state};
@@ -20,15 +18,21 @@ use store::store::Store;
 // Reads a line, and carries its order out. The store and the line go on beside each other to two functions; a struct of
 // both would hold a borrow for these alone.
 pub(crate) fn answer_line<G: Group, A: Erasable>(store: &mut Store<G, A>, line: Line) -> Reply
-    ensures keeps { Keeps A.CellArray.held A.CellArray.intact store.old store.new }
-    ensures execution { Execution (code_of G.Group store.old.code) (λ h. ExecutesLine line.entry.number line.entry.bytes.now (state A.CellArray.cells store.old) h result) (state A.CellArray.cells store.old) (state A.CellArray.cells store.new) }
+    ensures keeps { Keeps A.CellArray store.old store.new }
+    ensures execution { Execution (code_of G.Group store.old.code)
+        (λ h. ExecutesLine line.entry.number line.entry.bytes.now (state A.CellArray store.old)
+        h result)
+        (state A.CellArray store.old) (state A.CellArray store.new) }
 {
     obey(store, line).unwrap_or_else(|fault| Reply::Refused { fault })
 }
 
 fn obey<G: Group, A: Erasable>(store: &mut Store<G, A>, line: Line) -> Result<Reply, ScriptFault>
-    ensures keeps { Keeps A.CellArray.held A.CellArray.intact store.old store.new }
-    ensures execution { Execution (code_of G.Group store.old.code) (λ h. ExecutesLine line.entry.number line.entry.bytes.now (state A.CellArray.cells store.old) h (reply_of result)) (state A.CellArray.cells store.old) (state A.CellArray.cells store.new) }
+    ensures keeps { Keeps A.CellArray store.old store.new }
+    ensures execution { Execution (code_of G.Group store.old.code)
+        (λ h. ExecutesLine line.entry.number line.entry.bytes.now (state A.CellArray store.old)
+        h (reply_of result))
+        (state A.CellArray store.old) (state A.CellArray store.new) }
 {
     let order = Order::read(line.bytes).located_at(line.number)?;
     carry_out(store, line.number, order)
@@ -40,8 +44,10 @@ fn carry_out<G: Group, A: Erasable>(
     line: usize,
     order: Order,
 ) -> Result<Reply, ScriptFault>
-    ensures keeps { Keeps A.CellArray.held A.CellArray.intact store.old store.new }
-    ensures execution { Execution (code_of G.Group store.old.code) (λ h. ExecutesOrder line order (state A.CellArray.cells store.old) h (reply_of result)) (state A.CellArray.cells store.old) (state A.CellArray.cells store.new) }
+    ensures keeps { Keeps A.CellArray store.old store.new }
+    ensures execution { Execution (code_of G.Group store.old.code)
+        (λ h. ExecutesOrder line order (state A.CellArray store.old) h (reply_of result))
+        (state A.CellArray store.old) (state A.CellArray store.new) }
 {
     match order {
         Order::Put { record, value } => {

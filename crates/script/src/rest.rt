@@ -3,6 +3,7 @@
 ghost use Rattle.std.specs.Prelude.{IfOk};
 ghost use Rattle.calls.specs.Calls.{state_of};
 ghost use Rattle.calls.specs.Ledger.{blank};
+ghost use Rattle.coset.specs.Codes.{code_of};
 ghost use Rattle.script.specs.Lines.{lines_left};
 ghost use Rattle.script.specs.Execution.{Answered};
 ghost use Rattle.store.specs.Keeps.{state};
@@ -24,7 +25,8 @@ pub(crate) fn answer_rest<G: Group + Drop, A: Erasable>(
     array: &mut A,
     lines: Lines,
 ) -> Result<Vec<Reply>, AllocError>
-    ensures { IfOk result (λ v. Answered (G.Group.meaning code.group) code.cells (state_of (A.CellArray.cells array.old) blank) (lines_left lines.entry) v.items) }
+    ensures { IfOk result (λ v. Answered (code_of G.Group code)
+        (state_of (A.cells array.old) blank) (lines_left lines.entry) v.items) }
 {
     let mut store = Store::new(code, array);
     answer_lines(heap, &mut store, lines)
@@ -36,7 +38,8 @@ fn answer_lines<G: Group, A: Erasable>(
     store: &mut Store<G, A>,
     lines: Lines,
 ) -> Result<Vec<Reply>, AllocError>
-    ensures { IfOk result (λ v. Answered (G.Group.meaning store.old.code.group) store.old.code.cells (state A.CellArray.cells store.old) (lines_left lines.entry) v.items) }
+    ensures { IfOk result (λ v. Answered (code_of G.Group store.old.code)
+        (state A.CellArray store.old) (lines_left lines.entry) v.items) }
 {
     let mut replies = Vec::new(heap);
     replies.push(Reply::Made {

@@ -1,7 +1,7 @@
 use Rattle.std.proofs.Common.{sym, refl, ap, ◌∙◌}
 use Rattle.std.proofs.lemmas.Result.{err_from_is_err_and}
-use Rattle.coset.specs.Code.{code}
-use Rattle.calls.specs.Calls.{state_of}
+use Rattle.coset.specs.Codes.{code_of}
+use Rattle.store.specs.Keeps.{state}
 use Rattle.commands.specs.Orders.{line_rows, IsOrder}
 use Rattle.script.specs.declared.reply.Reply.TheVariants.{Refused}
 use Rattle.script.specs.Execution.{reply_of}
@@ -10,8 +10,8 @@ use Rattle.script.proofs.answer.obey.Goals as goal
 
 pub returns-in_err-order : goal.returns-in_err-order
 returns-in_err-order g c =
-    let co = code (g.G.Group.meaning c.args.store.now.code.group) c.args.store.now.code.cells in
-    let s = state_of (g.A.CellArray.cells c.args.store.now.array) c.args.store.now.ledger in
+    let co = code_of g.G.Group c.args.store.now.code in
+    let s = state g.A.CellArray c.args.store.now in
     let l = c.args.line.bytes.now in
     let k = c.args.line.number in
     let e = c.in_err-order.field-0.0 in
@@ -24,9 +24,9 @@ returns-in_err-order g c =
 
 pub returns : goal.returns
 returns g c =
-    let co = code (g.G.Group.meaning c.args.store.now.code.group) c.args.store.now.code.cells in
-    let before = state_of (g.A.CellArray.cells c.args.store.now.array) c.args.store.now.ledger in
-    let after = state_of (g.A.CellArray.cells c.carry_out.new.store.array) c.carry_out.new.store.ledger in
+    let co = code_of g.G.Group c.args.store.now.code in
+    let before = state g.A.CellArray c.args.store.now in
+    let after = state g.A.CellArray c.carry_out.new.store in
     let l = c.args.line.bytes.now in
     let k = c.args.line.number in
     let read = read_accepted (line_rows l) (IsOrder l) k c.read.result c.in_ok-order.order (sym c.located_at.ensures ∙ c.in_ok-order.was) c.read.ensures in

@@ -1,8 +1,7 @@
 use Rattle.std.proofs.Common.{◌∷◌, [], ◌++◌, refl, ap, vec_items, ◌∙◌, subst}
-use Rattle.coset.specs.Code.{code}
 use Rattle.coset.specs.Codes.{code_of}
-use Rattle.calls.specs.Calls.{state_of}
 use Rattle.calls.specs.Records.{records}
+use Rattle.store.specs.Keeps.{state}
 use Rattle.script.specs.declared.reply.Reply.TheVariants.{Made}
 use Rattle.script.specs.Lines.{line_of, lines_left}
 use Rattle.script.specs.Execution.{ExecutesLine, Execution}
@@ -19,15 +18,15 @@ loop-line-init g c = (
 pub loop-line-preserved : goal.loop-line-preserved
 loop-line-preserved g c =
     let inv = c.loop-line.invariant in
-    let co = code (g.G.Group.meaning c.args.store.now.code.group) c.args.store.now.code.cells in
-    let first = state_of (g.A.CellArray.cells c.args.store.now.array) c.args.store.now.ledger in
-    let now = state_of (g.A.CellArray.cells c.loop-line.store.array) c.loop-line.store.ledger in
-    let next = state_of (g.A.CellArray.cells c.answer_line.new.store.array) c.answer_line.new.store.ledger in
+    let co = code_of g.G.Group c.args.store.now.code in
+    let first = state g.A.CellArray c.args.store.now in
+    let now = state g.A.CellArray c.loop-line.store in
+    let next = state g.A.CellArray c.answer_line.new.store in
     let l = line_of c.in-Some.line in
     let answered = c.answer_line.ensures in (
       answered.keeps.0 ∙ inv.0,
       progress_more co first now next (lines_left c.into_iter-line-iterator.result) (lines_left c.loop-line.line-iterator) l (lines_left c.next.new.self)
           (Made (records co (g.A.CellArray.cells c.args.store.now.array))) c.answer_line.result (vec_items c.loop-line.replies) (vec_items c.push-in-loop-line.new.self)
           inv.1 c.in-Some.ensures.steps c.in_ok-push-2.ensures.items
-          (subst (λ k. Execution (code_of g.G.Group.meaning k) (λ h. ExecutesLine l.1 l.0 now h c.answer_line.result) now next) inv.0 answered.execution),
+          (subst (λ k. Execution (code_of g.G.Group k) (λ h. ExecutesLine l.1 l.0 now h c.answer_line.result) now next) inv.0 answered.execution),
     )

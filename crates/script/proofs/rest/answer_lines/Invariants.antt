@@ -1,7 +1,7 @@
 use Rattle.std.proofs.Common.{◌≡◌, vec_items}
-use Rattle.coset.specs.Code.{code}
-use Rattle.calls.specs.Calls.{state_of}
+use Rattle.coset.specs.Codes.{code_of}
 use Rattle.calls.specs.Records.{records}
+use Rattle.store.specs.Keeps.{state}
 use Rattle.script.specs.declared.reply.Reply.TheVariants.{Made}
 use Rattle.script.specs.Lines.{lines_left}
 use Rattle.script.proofs.Progress.{Progress}
@@ -10,6 +10,6 @@ use Rattle.script.proofs.rest.answer_lines.Given as goal
 abbrev pub invariant-loop-line : goal.invariant-loop-line
 invariant-loop-line g l =
     (l.store.code ≡ l.initial.store.code)
-    × Progress (code (g.G.Group.meaning l.initial.store.code.group) l.initial.store.code.cells) (state_of (g.A.CellArray.cells l.initial.store.array) l.initial.store.ledger)
-    (lines_left l.initial.line-iterator) (lines_left l.line-iterator) (state_of (g.A.CellArray.cells l.store.array) l.store.ledger)
-    (Made (records (code (g.G.Group.meaning l.initial.store.code.group) l.initial.store.code.cells) (g.A.CellArray.cells l.initial.store.array))) (vec_items l.replies)
+    × Progress (code_of g.G.Group l.initial.store.code) (state g.A.CellArray l.initial.store)
+    (lines_left l.initial.line-iterator) (lines_left l.line-iterator) (state g.A.CellArray l.store)
+    (Made (records (code_of g.G.Group l.initial.store.code) (g.A.CellArray.cells l.initial.store.array))) (vec_items l.replies)
