@@ -6,8 +6,7 @@ mod lists;
 
 use crate::lists::{UNTIL_WORN, WITH_A_NEIGHBOUR};
 use anyhow::anyhow;
-use calls::call::Call;
-use calls::fault::StoreFault;
+use calls::call::{Call, Entry};
 use calls::ledger::Ledger;
 use cells::array::{CellArray, Erasable};
 use cells::bench::Bench;
@@ -17,29 +16,33 @@ use images::fault::ImageError;
 use images::flash::FlashPart;
 use images::fresh::fresh_flash;
 use std::io;
-use store::run::run_calls;
+use store::run::serve_calls;
 
 fn main(rt: HostRuntime) -> anyhow::Result<()> {
     println!(rt; "bench part")?;
     let mut bench = Bench::new();
-    show_run(&rt, &mut bench, &UNTIL_WORN)?;
+    show_run(&rt, &mut bench, &mut UNTIL_WORN.map(Entry::new))?;
     println!(rt; "flash image of one page of 12 cells")?;
     let mut image = fresh_flash(rt.alloc(), 1, 12).map_err(|error| match error {
         ImageError::NoMemory => anyhow!("no memory for the image"),
         ImageError::Image(fault) => anyhow!("refused {}", fault.number()),
     })?;
     let mut flash = FlashPart::over(&mut image);
-    show_run(&rt, &mut flash, &WITH_A_NEIGHBOUR)
+    show_run(&rt, &mut flash, &mut WITH_A_NEIGHBOUR.map(Entry::new))
 }
 
-// Makes a store over the array, applies the calls to it, and prints what they did.
-fn show_run<A: Erasable>(rt: &HostRuntime, array: &mut A, calls: &[Call]) -> anyhow::Result<()> {
+// Makes a store over the array, serves the calls on it, and prints what they did.
+fn show_run<A: Erasable>(
+    rt: &HostRuntime,
+    array: &mut A,
+    entries: &mut [Entry<Call>],
+) -> anyhow::Result<()> {
     let code = Code::new(Integers::new(7), 6);
-    let run = run_calls(rt.alloc(), code, array, calls)?;
-    for (call, answer) in calls.iter().zip(run.answers.iter()) {
-        show_call(rt, *call, *answer)?;
+    let ledger = serve_calls(code, array, entries);
+    for entry in entries.iter() {
+        show_entry(rt, entry)?;
     }
-    show_ledger(rt, &run.ledger)?;
+    show_ledger(rt, &ledger)?;
     show_wear(rt, array)?;
     Ok(())
 }
@@ -55,8 +58,8 @@ fn show_wear<A: Erasable>(rt: &HostRuntime, array: &A) -> io::Result<()> {
     Ok(())
 }
 
-fn show_call(rt: &HostRuntime, call: Call, answer: Result<u32, StoreFault>) -> io::Result<()> {
-    let what = match call {
+fn show_entry(rt: &HostRuntime, entry: &Entry<Call>) -> io::Result<()> {
+    let what = match entry.call {
         Call::Get { record } => {
             print!(rt; "get {record}: ")?;
             "value"
@@ -70,9 +73,10 @@ fn show_call(rt: &HostRuntime, call: Call, answer: Result<u32, StoreFault>) -> i
             "cells set"
         }
     };
-    match answer {
-        Ok(count) => println!(rt; "{what} {count}"),
-        Err(fault) => println!(rt; "refused {}", fault.number()),
+    match entry.answer {
+        Some(Ok(count)) => println!(rt; "{what} {count}"),
+        Some(Err(fault)) => println!(rt; "refused {}", fault.number()),
+        None => println!(rt; "no answer"),
     }
 }
 
