@@ -1,7 +1,8 @@
-// Lists of calls as a whole: a history with every kind of call, a list of none, and lists one after another.
+// Lists of calls as a whole: a history with every kind of call, a list of none, a long list, and lists one after
+// another.
 // The answers, the ledger and what is set afterwards are all known.
 use crate::runs::*;
-use calls::call::Access;
+use calls::call::{Access, Call, Entry};
 use cells::array::CellArray;
 use cells::bench::Bench;
 use coset::code::Code;
@@ -70,26 +71,69 @@ fn no_calls(rt: HostRuntime) -> Result<(), Fail> {
     Ok(())
 }
 
+// Of a long list modulo 7, the call at a place and its answer. Record after record is put to a value, which the get
+// after the put answers. There are twenty records: from place 40 on the puts are of held values.
+fn long_case(place: usize) -> (Call, Answer) {
+    let record = place / 2 % 20;
+    let value = [1, 2, 3, 4, 5, 6][record % 6];
+    if place % 2 == 1 {
+        return (get(record), Ok(value));
+    }
+    (put(record, value), Ok(u32::from(place < 40)))
+}
+
+// Each record has one cell set, the one whose label is its value.
+#[test]
+fn a_hundred_calls(rt: HostRuntime) -> Result<(), Fail> {
+    let cases: Vec<(Call, Answer)> = (0..100).map(long_case).collect(rt.alloc())?;
+    let mut bench = Bench::new();
+    let counted = check_calls(
+        &rt,
+        rt.alloc(),
+        Code::new(Integers::new(7), 6),
+        &mut bench,
+        &cases,
+    )?;
+    assert_eq!(rt; counted, ledger(20, 0, 20));
+    check_page(
+        &rt,
+        rt.alloc(),
+        &bench,
+        0,
+        &[0, 7, 14, 21, 28, 35, 36, 43, 50, 57],
+        0,
+    )?;
+    check_page(
+        &rt,
+        rt.alloc(),
+        &bench,
+        1,
+        &[4, 11, 12, 19, 26, 33, 40, 47, 48, 55],
+        0,
+    )
+}
+
 // The second list goes on from the first, and so does each call that is made alone.
 #[test]
 fn lists_and_calls_on_one_store(rt: HostRuntime) -> Result<(), Fail> {
     let mut store = Store::new(Code::new(Vectors::new(2), 3), Bench::new());
     assert_eq!(rt; store.records(), 42);
-    assert_eq!(rt;
-        store.apply(rt.alloc(), &[put(41, 3), get(41)])?.as_slice(),
-        [Ok(1), Ok(3)].as_slice()
-    );
+    let mut calls = [put(41, 3), get(41)].map(Entry::new);
+    store.serve_all(&mut calls);
+    assert_eq!(rt; calls.map(|entry| entry.answer), [Some(Ok(1)), Some(Ok(3))]);
     assert_eq!(rt; store.ledger(), ledger(1, 0, 1));
-    let accesses = [
+    let mut accesses = [
         Access::Put {
             record: 41,
             value: 0,
         },
         Access::Get { record: 41 },
-    ];
+    ]
+    .map(Entry::new);
+    store.serve_all(&mut accesses);
     assert_eq!(rt;
-        store.apply(rt.alloc(), &accesses)?.as_slice(),
-        [Ok(2), Ok(0)].as_slice()
+        accesses.map(|entry| entry.answer),
+        [Some(Ok(2)), Some(Ok(0))]
     );
     assert_eq!(rt; store.ledger(), ledger(2, 0, 3));
     assert_eq!(rt; store.put(41, 1), full(41));

@@ -1,6 +1,6 @@
 // What the tests ask of a store: tables of calls with their answers, and which cells are set afterwards.
 // The checks take the runtime, by which a test fails, and what allocates takes the heap.
-use calls::call::{Access, Call};
+use calls::call::{Access, Call, Entry};
 use calls::fault::StoreFault;
 use calls::ledger::Ledger;
 use cells::array::{CellArray, Erasable};
@@ -10,12 +10,12 @@ use group::interface::Group;
 use std::alloc::{AllocError, Global};
 use std::process::Abort;
 use std::test::Fail;
-use store::run::{Run, run_accesses, run_calls};
+use store::run::{serve_accesses, serve_calls};
 use store::store::Store;
 
 pub type Answer = Result<u32, StoreFault>;
 
-// Makes a store over the array and applies the calls. Each must get the answer that stands beside it.
+// Makes a store over the array and serves the calls. Each must get the answer that stands beside it.
 pub fn check_calls<G: Group + Drop, A: Erasable>(
     rt: &impl Abort,
     heap: Global,
@@ -23,8 +23,10 @@ pub fn check_calls<G: Group + Drop, A: Erasable>(
     array: &mut A,
     cases: &[(Call, Answer)],
 ) -> Result<Ledger, Fail> {
-    let calls = first_of_each(heap, cases)?;
-    Ok(check_run(rt, run_calls(heap, code, array, &calls)?, cases))
+    let mut entries = entries_of(heap, cases)?;
+    let counted = serve_calls(code, array, &mut entries);
+    check_answers(rt, &entries, cases);
+    Ok(counted)
 }
 
 // The same over any cell array, with gets and puts alone. There are two, as there are two functions to try.
@@ -35,23 +37,23 @@ pub fn check_accesses<G: Group + Drop, A: CellArray>(
     array: &mut A,
     cases: &[(Access, Answer)],
 ) -> Result<Ledger, Fail> {
-    let accesses = first_of_each(heap, cases)?;
-    Ok(check_run(rt, run_accesses(heap, code, array, &accesses)?, cases))
+    let mut entries = entries_of(heap, cases)?;
+    let counted = serve_accesses(code, array, &mut entries);
+    check_answers(rt, &entries, cases);
+    Ok(counted)
 }
 
-fn first_of_each<C: Copy + Drop>(
+fn entries_of<C: Copy + Drop>(
     heap: Global,
     cases: &[(C, Answer)],
-) -> Result<Vec<C>, AllocError> {
-    cases.iter().map(|case| case.0).collect(heap)
+) -> Result<Vec<Entry<C>>, AllocError> {
+    cases.iter().map(|case| Entry::new(case.0)).collect(heap)
 }
 
-fn check_run<C>(rt: &impl Abort, run: Run, cases: &[(C, Answer)]) -> Ledger {
-    assert_eq!(rt; run.answers.len(), cases.len(), "an answer to each call");
-    for (i, (answer, case)) in run.answers.iter().zip(cases).enumerate() {
-        assert_eq!(rt; *answer, case.1, "call {i}");
+fn check_answers<C>(rt: &impl Abort, entries: &[Entry<C>], cases: &[(C, Answer)]) {
+    for (i, (entry, case)) in entries.iter().zip(cases).enumerate() {
+        assert_eq!(rt; entry.answer, Some(case.1), "call {i}");
     }
-    run.ledger
 }
 
 // The set cells of a page, in rising order.
