@@ -144,7 +144,7 @@ module _ (c : Code) where
           absurd (served_not_refused (opening_rows c e.before) k (served_first (opening_rows c e.before) (rows c (decoded Flash e.before) e.call) served.served) barred)
       one_refused (inr other) barred = (
         other.2
-        ∙ ap (λ j. 10000 + j)
+            ∙ ap (λ j. 10000 + j)
             (one_number (entry_rows c e.call e.before) other.0 k other.1.refused
             (refused_first (opening_rows c e.before) (rows c (decoded Flash e.before) e.call) k barred)),
         other.1.unchanged,

@@ -38,8 +38,10 @@ pub record PromiseOnImage (c : Code) (xs : List ℕ) (made : List ImageCall) (ys
   pub counts : Ledger
   pub numbers : map (λ (e : ImageCall). e.answer) made ≡ map number_for_c answers
   pub promise :
-      Promise c (state_of (decoded Flash xs) blank) (map (λ (e : ImageCall). e.call) made) answers (state_of (decoded Flash ys) counts)
-  pub found : map (λ (e : Event). e.before.cells) promise.history ≡ map (λ (e : ImageCall). decoded Flash e.before) made
+      Promise c (state_of (decoded Flash xs) blank) (map (λ (e : ImageCall). e.call) made) answers
+      (state_of (decoded Flash ys) counts)
+  pub found :
+      map (λ (e : Event). e.before.cells) promise.history ≡ map (λ (e : ImageCall). decoded Flash e.before) made
   pub left : map (λ (e : Event). e.after.cells) promise.history ≡ map (λ (e : ImageCall). decoded Flash e.after) made
 
 -- What the calls keep together. Over a bad image, or with a code of which no store can be made, each is refused by the

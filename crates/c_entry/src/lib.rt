@@ -23,7 +23,8 @@ pub extern "C" fn record_store_get(
     record: u32,
     image: &mut [u8],
 ) -> u32
-    ensures answers { CallsOnImage (code_named kind parameter n) (Get «record») image.old image.new result }
+    ensures answers { CallsOnImage (code_named kind parameter n) (Get «record»)
+        image.old image.new result }
     ensures same { image.new ≡ image.old }
 {
     let record = record as usize;
@@ -40,7 +41,8 @@ pub extern "C" fn record_store_put(
     value: u32,
     image: &mut [u8],
 ) -> u32
-    ensures { CallsOnImage (code_named kind parameter n) (Put «record» value) image.old image.new result }
+    ensures { CallsOnImage (code_named kind parameter n) (Put «record» value)
+        image.old image.new result }
 {
     let record = record as usize;
     enter(kind, parameter, n, Call::Put { record, value }, image)
@@ -57,7 +59,8 @@ pub extern "C" fn record_store_renew(
     value: u32,
     image: &mut [u8],
 ) -> u32
-    ensures { CallsOnImage (code_named kind parameter n) (Renew «record» value) image.old image.new result }
+    ensures { CallsOnImage (code_named kind parameter n) (Renew «record» value)
+        image.old image.new result }
 {
     let record = record as usize;
     enter(kind, parameter, n, Call::Renew { record, value }, image)

@@ -13,7 +13,7 @@ use Rattle.calls.specs.declared.call.Call.{Call}
 use Rattle.calls.specs.declared.ledger.Ledger.{Ledger}
 use Rattle.calls.specs.Ledger.{raised}
 use Rattle.calls.specs.Calls.{State, Answer, state_of, Obeys}
-use Rattle.calls.specs.History.{Event, Linked, Every}
+use Rattle.calls.specs.History.{Event, Linked, Every, total, marks}
 use Rattle.calls.specs.Promise.{Promise, WithinCeiling}
 use Rattle.calls.specs.Steps.{steps_of, all_steps}
 use Rattle.calls.specs.declared.call.Entry.{Entry}
@@ -80,6 +80,7 @@ runs_promise array c before counted calls answers after counts lawful labels wit
     record {
       promise = p.0;
       takes = subst (λ h. Takes array (all_steps c h) before after) (sym p.1) runs.takes;
+      marks_answered = count_all c p.0.history p.0.obeys;
       marked = p.0.ledger_marked ∙ ap (λ n. raised n counted.marked) (sym (count_all c p.0.history p.0.obeys));
     }
 
@@ -99,12 +100,13 @@ pub lent_list :
     map (λ (e : Entry C). e.call) served ≡ map (λ (e : Entry C). e.call) asked → map (λ (e : Entry C). e.answer) served ≡ map Some answers →
     (p : Promise c (state_of (array.cells before.now) counted) (map (λ (e : Entry C). call e.call) asked) answers (state_of (array.cells after.now) counts)) →
     Chain (lent_step array) (all_steps c p.history) before after →
+    count_by is_mark (all_steps c p.history) ≡ total (λ e. marks e.call e.answer) p.history →
     counts.marked ≡ raised (count_by is_mark (all_steps c p.history)) counted.marked →
     ListServed array c call before.now counted asked served after.now counts
-lent_list array c call before counted asked served after counts answers kept answered p taken marked =
+lent_list array c call before counted asked served after counts answers kept answered p taken exact marked =
     record {
       answers = answers;
       calls_kept = kept;
       all_answered = answered;
-      promise = record { promise = p; takes = lent_takes array (all_steps c p.history) before after taken; marked = marked };
+      kept = record { promise = p; takes = lent_takes array (all_steps c p.history) before after taken; marks_answered = exact; marked = marked };
     }

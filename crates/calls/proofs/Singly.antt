@@ -78,9 +78,9 @@ single_calls_suffice c lawful labels first made last on all =
     let all_kept =
     subst₂
     (λ calls answers.
-        (p : Promise c (state_of first blank) calls answers (state_of last counts))
-        × (map (λ (e : Event). e.before.cells) p.history ≡ map (λ (e : Event). e.before.cells) made)
-        × (map (λ (e : Event). e.after.cells) p.history ≡ map (λ (e : Event). e.after.cells) made))
+    (p : Promise c (state_of first blank) calls answers (state_of last counts))
+    × (map (λ (e : Event). e.before.cells) p.history ≡ map (λ (e : Event). e.before.cells) made)
+    × (map (λ (e : Event). e.after.cells) p.history ≡ map (λ (e : Event). e.after.cells) made))
     (its_calls c blank made) (its_answers c blank made)
     (kept.0, ap (map (λ (e : Event). e.before.cells)) kept.1 ∙ cells_before c blank made, ap (map (λ (e : Event). e.after.cells)) kept.1 ∙ cells_after c blank made) in
     (counts, all_kept.0, all_kept.1, all_kept.2)

@@ -7,13 +7,13 @@ use Rattle.cells.specs.Sets.{Cellset, size_below}
 use Rattle.coset.specs.Code.{Code, code, every, sum_below}
 use Rattle.calls.specs.declared.call.Call.TheVariants.{Put, Renew}
 use Rattle.calls.specs.Records.{records, free}
-use Rattle.calls.specs.Examples.{labelled, record_of_code, step_to, ExampleHolds, plans, refuses, accepted, z7, z4, Worked}
+use Rattle.calls.specs.Examples.{labelled, one_record, step_to, ExampleHolds, plans, refuses, making_accepted, z7, z4, Worked}
 use Rattle.calls.proofs.Subsets.{full_test, none_reaches, plan_test, plan_by, list_test, listed_by}
 
 -- the plans of an example, one or two of them, each by a test that antt computes
 module _ (c : Code) (ls : List ℕ) (x : ℕ) where
   abbrev unset : Cellset
-  unset = free c (record_of_code c ls) 0
+  unset = free c (one_record c ls) 0
 
   abbrev tests : List ℕ → Type 0
   tests p = plan_test c unset (step_to c ls x) (labelled p) ≡ true
@@ -32,17 +32,17 @@ module _ (c : Code) (ls : List ℕ) (x : ℕ) where
   )
 
   -- a put of a record and a value that there are, where nothing fits
-  full : 0 < records c (record_of_code c ls) → x < c.group.order → full_test c unset (step_to c ls x) ≡ true → ExampleHolds (refuses c ls (Put 0 x) 42)
+  full : 0 < records c (one_record c ls) → x < c.group.order → full_test c unset (step_to c ls x) ≡ true → ExampleHolds (refuses c ls (Put 0 x) 42)
   full there element e = inr (λ none. omega arith, inr (λ large. omega arith, inl (none_reaches c unset (step_to c ls x) e, refl)))
 
   -- a renewal to a value that is out of reach from empty too
   unreached :
-      0 < records c (record_of_code c ls) → x < c.group.order → full_test c unset (step_to c ls x) ≡ true → full_test c every x ≡ true →
+      0 < records c (one_record c ls) → x < c.group.order → full_test c unset (step_to c ls x) ≡ true → full_test c every x ≡ true →
       ExampleHolds (refuses c ls (Renew 0 x) 44)
   unreached there element e none =
       inr (λ small. omega arith, inr (λ large. omega arith, inr (λ fits. none_reaches c unset (step_to c ls x) e fits.0 fits.1, inl (none_reaches c every x none, refl))))
 
-fits_64 : ExampleHolds (accepted (code (integers 64) 63) 64)
+fits_64 : ExampleHolds (making_accepted (code (integers 64) 63) 64)
 fits_64 = (λ e. omega arith, (no_row, (λ h. omega arith, tt)))
   where
     no_row : ((◌≡◌ {A = ℕ} 63 0) ⊎ (63 < 63)) → ⊥

@@ -14,14 +14,14 @@ use Rattle.calls.specs.Records.{making_rows, records, page_of, first_of, free, v
 use Rattle.calls.specs.Calls.{rows}
 use Rattle.calls.specs.Ledger.{rate}
 
--- the cells with these labels, among the first cells of a record, each of which has a label of its own
+-- the cells with these labels: cell i has the label i + 1, as in the first cells of a record by the rules
 abbrev pub labelled : List ℕ → Cellset
 labelled [] i = false
 labelled (a ∷ ls) i = i + 1 == a || labelled ls i
 
--- one page with one record of n cells, of which those with these labels are set
-abbrev pub one_record : ℕ → List ℕ → Cells
-one_record n ls = record { pages = 1; width = n; set = λ p i. labelled ls i; wear = λ p. 0; limit = 1 }
+-- one page with one record of the code, of which the cells with these labels are set
+abbrev pub one_record : Code → List ℕ → Cells
+one_record c ls = record { pages = 1; width = c.cells; set = λ p i. labelled ls i; wear = λ p. 0; limit = 1 }
 
 -- an array of so many pages and cells to a page, none of which is set
 abbrev pub array_of : ℕ → ℕ → Cells
@@ -49,36 +49,33 @@ pub data Example : Type 0 where
   -- changes, renewals and the rate
   rates : ℕ → ℕ → ℕ → Example
   -- a making over pages of this width is accepted, or refused by a number
-  accepted : Code → ℕ → Example
-  refused : Code → ℕ → ℕ → Example
+  making_accepted : Code → ℕ → Example
+  making_refused : Code → ℕ → ℕ → Example
   -- an array of so many pages and cells to a page has this many records, and record k lies in this page, from this cell
   -- on
   placed_at : Code → ℕ → ℕ → ℕ → ℕ → ℕ → ℕ → Example
 
--- such a record, alone in its array
-abbrev pub record_of_code : Code → List ℕ → Cells
-record_of_code c ls = one_record c.cells ls
-
 -- what a plan of it is a plan for
 abbrev pub step_to : Code → List ℕ → ℕ → ℕ
-step_to c ls x = step c.group (value c (record_of_code c ls) 0) x
+step_to c ls x = step c.group (value c (one_record c ls) 0) x
 
 abbrev pub Planned : Code → List ℕ → ℕ → List (List ℕ) → Type 0
 Planned c ls x [] = Unit {0}
-Planned c ls x (p ∷ ps) = Plan c (free c (record_of_code c ls) 0) (step_to c ls x) (labelled p) × Planned c ls x ps
+Planned c ls x (p ∷ ps) =
+    Plan c (free c (one_record c ls) 0) (step_to c ls x) (labelled p) × Planned c ls x ps
 
 abbrev pub ExampleHolds : Example → Type 0
-ExampleHolds (holds c ls x) = value c (record_of_code c ls) 0 ≡ x
+ExampleHolds (holds c ls x) = value c (one_record c ls) 0 ≡ x
 ExampleHolds (steps c ls x d) = step_to c ls x ≡ d
 ExampleHolds (plans c ls x ps) =
     Planned c ls x ps
-    × ((s : Cellset) → Plan c (free c (record_of_code c ls) 0) (step_to c ls x) s → Listed c s ps)
-ExampleHolds (refuses c ls call k) = Refused (rows c (record_of_code c ls) call) k
+    × ((s : Cellset) → Plan c (free c (one_record c ls) 0) (step_to c ls x) s → Listed c s ps)
+ExampleHolds (refuses c ls call k) = Refused (rows c (one_record c ls) call) k
 ExampleHolds (sums g a b x) = g.sum a b ≡ x
 ExampleHolds (figures g e h) = (most_halves g (g.order - 1) ≡ e) × (figure g ≡ h)
 ExampleHolds (rates a w r) = rate a w ≡ r
-ExampleHolds (accepted c w) = Served (making_rows c (array_of 1 w))
-ExampleHolds (refused c w k) = Refused (making_rows c (array_of 1 w)) k
+ExampleHolds (making_accepted c w) = Served (making_rows c (array_of 1 w))
+ExampleHolds (making_refused c w k) = Refused (making_rows c (array_of 1 w)) k
 ExampleHolds (placed_at c pages width k count page first) =
     (records c (array_of pages width) ≡ count) × (page_of c (array_of pages width) k ≡ page)
     × (first_of c (array_of pages width) k ≡ first)
@@ -114,9 +111,9 @@ worked =
     (figures (vectors 3) 0 2 ∷
     (figures (product (integers 2) (integers 4)) 4 1 ∷
     (rates 5 8 63 ∷
-    (accepted (code (integers 64) 63) 64 ∷
-    (refused (code (integers 65) 63) 64 30 ∷
-    (refused (code (integers 64) 64) 64 31 ∷
+    (making_accepted (code (integers 64) 63) 64 ∷
+    (making_refused (code (integers 65) 63) 64 30 ∷
+    (making_refused (code (integers 64) 64) 64 31 ∷
     (placed_at z7 2 64 13 20 1 18 ∷
     (placed_at (code (integers 2) 1) 64 1024 4095 4096 63 63 ∷
     (placed_at (code (integers 65) 6) 2 64 0 0 0 0 ∷ [])))))))))))))))))))))))

@@ -11,6 +11,7 @@ use Rattle.calls.specs.declared.call.Entry.{Entry}
 use Rattle.calls.specs.declared.ledger.Ledger.{Ledger}
 use Rattle.calls.specs.Ledger.{raised}
 use Rattle.calls.specs.Calls.{Answer, state_of}
+use Rattle.calls.specs.History.{total, marks}
 use Rattle.calls.specs.Promise.{Promise}
 use Rattle.calls.specs.Steps.{all_steps}
 
@@ -22,7 +23,9 @@ pub record PromiseOn {A : Type 0} (array : Ghosts A) (c : Code) (before : A) (co
       Promise c (state_of (array.cells before) counted) calls answers (state_of (array.cells after) counts)
   -- the array took the steps of that very history, and no others
   pub takes : Takes array (all_steps c promise.history) before after
-  -- the ledger counts the marks among them
+  -- of which as many are marks as the calls answer, and so as the ledger counts
+  pub marks_answered :
+      count_by is_mark (all_steps c promise.history) ≡ total (λ e. marks e.call e.answer) promise.history
   pub marked : counts.marked ≡ raised (count_by is_mark (all_steps c promise.history)) counted.marked
 
 -- The calls of a list of entries were served so: each entry still has its call, and now the answer of this call.
@@ -32,12 +35,14 @@ pub record ListServed {A C : Type 0} (array : Ghosts A) (c : Code) (call : C →
   pub answers : List Answer
   pub calls_kept : map (λ (e : Entry C). e.call) served ≡ map (λ (e : Entry C). e.call) asked
   pub all_answered : map (λ (e : Entry C). e.answer) served ≡ map Some answers
-  pub promise : PromiseOn array c before counted (map (λ (e : Entry C). call e.call) asked) answers after counts
+  pub kept : PromiseOn array c before counted (map (λ (e : Entry C). call e.call) asked) answers after counts
 
--- Over a paired part, whatever the array below, a list of calls leaves each cell below known: it is what the steps make
--- of it, two marks below for each mark of the history.
+-- Over a paired part, whatever the array below, a list of calls leaves each cell below known. The array below takes the
+-- steps of the history, two marks for each mark of it, and no others; each cell is what these steps make of it.
 abbrev pub PairedCellsKnown : {A : Type 0} → Ghosts A → Ghosts (Paired A) → Type 0
 PairedCellsKnown {A = A} array paired =
-    (c : Code) (before : Paired A) (counted : Ledger) (calls : List Call) (answers : List Answer) (after : Paired A) (counts : Ledger) →
-    (kept : PromiseOn paired c before counted calls answers after counts) →
-    CellsAfter (flat_map steps_below (all_steps c kept.promise.history)) (array.cells before.array) (array.cells after.array)
+    (c : Code) (before : Paired A) (counted : Ledger) (calls : List Call) (answers : List Answer)
+    (after : Paired A) (counts : Ledger) (kept : PromiseOn paired c before counted calls answers after counts) →
+    Takes array (flat_map steps_below (all_steps c kept.promise.history)) before.array after.array
+    × CellsAfter (flat_map steps_below (all_steps c kept.promise.history)) (array.cells before.array)
+    (array.cells after.array)

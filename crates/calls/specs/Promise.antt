@@ -13,9 +13,10 @@ use Rattle.calls.specs.Ledger.{ceiling, raised, blank}
 use Rattle.calls.specs.History.{Event, Linked, LinkedCells, Every, total, count, RefusedFull, renewed, changed, on_page, renewals, changes, marks, last_accepted}
 use Rattle.calls.specs.DataSheet.{DataSheet}
 
--- a record has at least as many cells as there are elements other than 0, so that each of these is the label of one
-abbrev pub EveryNonzeroLabelled : Code → Type 0
-EveryNonzeroLabelled c = c.group.order ≤ c.cells + 1
+-- a record has at least as many cells as there are elements other than 0; with the labels of the rules each of these is
+-- then the label of a cell
+abbrev pub EnoughCells : Code → Type 0
+EnoughCells c = c.group.order ≤ c.cells + 1
 
 -- Full exactly when nothing fits: a put that no row of its table before 42 refuses answers full if, and only if, the
 -- cells that are unset before it have no subset that sums to the step.
@@ -60,10 +61,10 @@ pub record Promise (c : Code) (first : State) (calls : List Call) (answers : Lis
   pub fewest : Every (λ e. Fewest c e.call e.answer e.before.cells e.after.cells) history
   -- changes per erase, for each page, however many records share it
   pub changes_per_erase :
-      EveryNonzeroLabelled c → (p : ℕ) → p < first.cells.pages →
+      EnoughCells c → (p : ℕ) → p < first.cells.pages →
       figure c.group * renewals c p history ≤ changes c p history + figure c.group
   -- when a put of the page can be full, and when the page can be worn out
-  pub data_sheet : EveryNonzeroLabelled c → DataSheet c first.cells history
+  pub data_sheet : EnoughCells c → DataSheet c first.cells history
   -- the wear of a page has grown by its accepted renewals
   pub erases :
       (p : ℕ) → p < first.cells.pages → last.cells.wear p ≡ first.cells.wear p + renewals c p history
@@ -104,6 +105,8 @@ SingleCallsSuffice =
     (c : Code) → Lawful c.group → LabelledInTurn c → (first : Cells) (made : List Event) (last : Cells) →
     LinkedCells first made last → Every (λ e. Obeys c e.call e.answer e.before e.after) made →
     (counts : Ledger)
-    × (p : Promise c (state_of first blank) (map (λ (e : Event). e.call) made) (map (λ (e : Event). e.answer) made) (state_of last counts))
+    × (p :
+    Promise c (state_of first blank) (map (λ (e : Event). e.call) made) (map (λ (e : Event). e.answer) made)
+    (state_of last counts))
     × (map (λ (e : Event). e.before.cells) p.history ≡ map (λ (e : Event). e.before.cells) made)
     × (map (λ (e : Event). e.after.cells) p.history ≡ map (λ (e : Event). e.after.cells) made)

@@ -11,7 +11,7 @@ use Rattle.coset.specs.Code.{code, LabelledInTurn}
 use Rattle.calls.specs.Calls.{State, Answer, Obeys}
 use Rattle.calls.specs.History.{Event, Linked, Every}
 use Rattle.calls.specs.DataSheet.{Unset}
-use Rattle.calls.specs.Promise.{EveryNonzeroLabelled}
+use Rattle.calls.specs.Promise.{EnoughCells}
 use Rattle.calls.specs.Examples.{labelled}
 
 -- the integers modulo v are a lawful group of order v
@@ -103,7 +103,7 @@ page_life =
 -- is 1.
 pub record PageLifeObeys : Type 0 where
   pub figure_is : figure (vectors 2) ≡ 1
-  pub enough : EveryNonzeroLabelled (code (vectors 2) 3)
+  pub enough : EnoughCells (code (vectors 2) 3)
   pub labelled : LabelledInTurn (code (vectors 2) 3)
   pub starts : Unset none_set.cells 0
   pub linked : Linked none_set page_life all_set_again

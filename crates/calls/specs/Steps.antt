@@ -23,7 +23,7 @@ marks_of p first s (suc i) = marks_of p first s i ++ cond (s i) (Mark p (first +
 abbrev pub newly_set : Code → Cells → Cells → ℕ → Cellset
 newly_set c before after k i = after.set (page_of c before k) (first_of c before k + i) && not (held c before k i)
 
--- the step of a renewal that is refused: only where the device refuses the erase does any reach it
+-- the steps of a refused renewal: the erase that was refused, where it was the device that refused, and else none
 abbrev pub refused_steps : ℕ → StoreFault → List Step
 refused_steps p (NoRecord k) = []
 refused_steps p (NoValue k) = []

@@ -22,7 +22,7 @@ pub enum Access {
 #[derive(Clone, Copy, Drop)]
 pub struct Entry<C> {
     pub call: C,
-    /// None until the call was made.
+    /// None in a new entry.
     pub answer: Option<Result<u32, StoreFault>>,
 }
 

@@ -1,5 +1,5 @@
-// Theorems over whole histories of calls, each on the contract of a function of its own.
-// They speak of the definitions alone; the calls of a store are to be shown to obey the rules that they start from.
+//! Theorems over whole histories of calls, each on the contract of a function of its own.
+//! They speak of the definitions; the calls of a store are to be shown to obey the rules that they start from.
 ghost use Rattle.calls.specs.Examples.{Worked};
 ghost use Rattle.calls.specs.Lists.{PairedCellsKnown};
 ghost use Rattle.calls.specs.Promise.{RulesSuffice, SingleCallsSuffice};

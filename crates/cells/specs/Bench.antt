@@ -26,7 +26,9 @@ bench_bounded pages = record { pages = omega arith; width = omega arith; wear = 
 
 -- The memory after a step: one flag is raised, or a page is made anew with one erase more, or nothing is altered.
 abbrev pub bench_after : List Page → Step → List Page
-bench_after pages (Mark p i) = slice_set pages p (record (bench_page pages p) { set = slice_set (bench_page pages p).set i true })
-bench_after pages (Erase p) = slice_set pages p (record { set = replicate 64 false; worn = (bench_page pages p).worn + 1 })
+bench_after pages (Mark p i) =
+    slice_set pages p (record (bench_page pages p) { set = slice_set (bench_page pages p).set i true })
+bench_after pages (Erase p) =
+    slice_set pages p (record { set = replicate 64 false; worn = (bench_page pages p).worn + 1 })
 bench_after pages (MarkRefused p i) = pages
 bench_after pages (EraseRefused p) = pages

@@ -54,10 +54,11 @@ pub record CellsAfter (ss : List Step) (before after : Cells) : Type 0 where
 -- Whatever steps an array takes, its cells are known afterwards.
 abbrev pub StepsTell : {A : Type 0} → Ghosts A → Type 0
 StepsTell {A = A} array =
-    (ss : List Step) (before after : A) → Takes array ss before after → CellsAfter ss (array.cells before) (array.cells after)
+    (ss : List Step) (before after : A) → Takes array ss before after →
+    CellsAfter ss (array.cells before) (array.cells after)
 
--- Whatever steps a paired part takes, the cells of the array below are known afterwards, both halves of each.
-abbrev pub StepsTellBelow : {A : Type 0} → Ghosts A → Ghosts (Paired A) → Type 0
-StepsTellBelow {A = A} array paired =
+-- Whatever steps a paired part takes, the array below takes those that they are there, and no others.
+abbrev pub StepsBelow : {A : Type 0} → Ghosts A → Ghosts (Paired A) → Type 0
+StepsBelow {A = A} array paired =
     (ss : List Step) (before after : Paired A) → Takes paired ss before after →
-    CellsAfter (flat_map steps_below ss) (array.cells before.array) (array.cells after.array)
+    Takes array (flat_map steps_below ss) before.array after.array

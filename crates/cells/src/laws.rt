@@ -1,5 +1,5 @@
-//! What the steps of an array tell of its cells, each law on the contract of a function with no code.
-ghost use Rattle.cells.specs.Chain.{StepsTell, StepsTellBelow};
+//! What the steps of an array tell, each law on the contract of a function with no code.
+ghost use Rattle.cells.specs.Chain.{StepsTell, StepsBelow};
 
 use crate::array::CellArray;
 use crate::paired::Paired;
@@ -9,8 +9,9 @@ pub fn steps_tell<A: CellArray>()
     ensures { StepsTell A.CellArray }
 {}
 
-/// Over any array, whatever steps a paired part takes, each cell below is known afterwards: also where half of a pair
-/// was set before, and where the width below is odd.
-pub fn steps_tell_below<A: CellArray>()
-    ensures { StepsTellBelow A.CellArray ⟦<Paired<A> as CellArray>⟧ }
+/// Over any array, whatever steps a paired part takes, the array below takes the marks of both halves and the erases, and
+/// no others. So each cell below is known by `steps_tell`: also where half of a pair was set before, and where the width
+/// below is odd.
+pub fn steps_below<A: CellArray>()
+    ensures { StepsBelow A.CellArray ⟦<Paired<A> as CellArray>⟧ }
 {}

@@ -40,7 +40,7 @@ impl<A: CellArray> CellArray for Paired<A> {
     // the steps that the array below takes
     ghost steps = { λ p s after. Takes A.CellArray (steps_below s) p.array after.array };
 
-    ghost bounded = { λ p. paired_bounded (A.CellArray.cells p.array) (A.CellArray.bounded p.array) };
+    ghost bounded = { λ p. paired_bounded (A.cells p.array) (A.bounded p.array) };
 
     fn pages(&self) -> usize {
         self.array.pages()
@@ -58,10 +58,13 @@ impl<A: CellArray> CellArray for Paired<A> {
     }
 
     fn mark(&mut self, page: usize, cell: usize) -> Result<(), DeviceFault>
-        ensures kept { Kept A.CellArray.held A.CellArray.intact self.old.array self.new.array }
-        ensures marks { Marks page cell (paired_cells (A.CellArray.cells self.old.array)) (paired_cells (A.CellArray.cells self.new.array)) result }
-        ensures step { Takes A.CellArray (steps_below (mark_step page cell result)) self.old.array self.new.array }
-        ensures both { MarksBoth page cell (A.CellArray.cells self.old.array) (A.CellArray.cells self.new.array) result }
+        ensures kept { Kept A.held A.intact self.old.array self.new.array }
+        ensures marks { let before = paired_cells (A.cells self.old.array) in
+            Marks page cell before (paired_cells (A.cells self.new.array)) result }
+        ensures step { Takes A.CellArray (steps_below (mark_step page cell result))
+            self.old.array self.new.array }
+        ensures both { MarksBoth page cell
+            (A.cells self.old.array) (A.cells self.new.array) result }
     {
         (*self).check_cell(page, cell)?;
         self.array.mark(page, 2 * cell)?;
@@ -78,10 +81,12 @@ impl<A: Erasable> Erasable for Paired<A> {
     }
 
     fn erase(&mut self, page: usize) -> Result<(), DeviceFault>
-        ensures kept { Kept A.CellArray.held A.CellArray.intact self.old.array self.new.array }
-        ensures erases { Erases page (paired_cells (A.CellArray.cells self.old.array)) (paired_cells (A.CellArray.cells self.new.array)) result }
-        ensures step { Takes A.CellArray (steps_below (erase_step page result)) self.old.array self.new.array }
-        ensures below { Erases page (A.CellArray.cells self.old.array) (A.CellArray.cells self.new.array) result }
+        ensures kept { Kept A.held A.intact self.old.array self.new.array }
+        ensures erases { let before = paired_cells (A.cells self.old.array) in
+            Erases page before (paired_cells (A.cells self.new.array)) result }
+        ensures step { Takes A.CellArray (steps_below (erase_step page result))
+            self.old.array self.new.array }
+        ensures below { Erases page (A.cells self.old.array) (A.cells self.new.array) result }
     {
         self.array.erase(page)
     }

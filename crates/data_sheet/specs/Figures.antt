@@ -2,7 +2,7 @@
 use Rattle.std.specs.Prelude.{◌≡◌, ℕ, ◌-◌, ◌≤◌, Some, None, Option}
 use Rattle.group.specs.Group.{Group, Usable, unusable, most_halves, figure}
 use Rattle.coset.specs.Code.{code}
-use Rattle.calls.specs.Promise.{EveryNonzeroLabelled}
+use Rattle.calls.specs.Promise.{EnoughCells}
 use Rattle.data_sheet.specs.declared.figures.Figures.{Figures}
 
 -- f holds the figures of g.
@@ -14,9 +14,9 @@ pub record FiguresOf (g : Group) (f : Figures) : Type 0 where
   -- h, the changes per erase that are promised
   pub changes : f.changes ≡ figure g
   -- h is promised for records of so many cells
-  pub enough : EveryNonzeroLabelled (code g f.cells)
+  pub enough : EnoughCells (code g f.cells)
   -- and for records of no fewer
-  pub fewest : (n : ℕ) → EveryNonzeroLabelled (code g n) → f.cells ≤ n
+  pub fewest : (n : ℕ) → EnoughCells (code g n) → f.cells ≤ n
 
 -- An unusable group has no figures; a usable one has its own.
 abbrev pub Gives : Group → Option Figures → Type 0

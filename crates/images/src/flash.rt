@@ -37,9 +37,13 @@ impl Erasable for Part<'_, Flash> {
     }
 
     fn erase(&mut self, page: usize) -> Result<(), DeviceFault>
-        ensures kept { Kept (λ a. a.image.ghost_name ∷ []) (λ a. Accepted FlashFormat a.layout a.image.now) self.old self.new }
-        ensures erases { Erases page (part_cells FlashFormat self.old.layout self.old.image.now) (part_cells FlashFormat self.new.layout self.new.image.now) result }
-        ensures step { (self.new.layout ≡ self.old.layout) × StepsBytes FlashFormat self.old.layout (erase_step page result) self.old.image.now self.new.image.now }
+        ensures kept { Kept (λ a. a.image.ghost_name ∷ [])
+            (λ a. Accepted FlashFormat a.layout a.image.now) self.old self.new }
+        ensures erases { Erases page (part_cells FlashFormat self.old.layout self.old.image.now)
+            (part_cells FlashFormat self.new.layout self.new.image.now) result }
+        ensures step { (self.new.layout ≡ self.old.layout)
+            × StepsBytes FlashFormat self.old.layout (erase_step page result)
+            self.old.image.now self.new.image.now }
     {
         let worn = (*self).check_erase(page)?;
         let at = self.layout.page_at(Format::Flash, page);

@@ -70,7 +70,8 @@ impl<K: Kind> CellArray for Part<'_, K> {
     // the image is accepted by the check, and the layout is its own
     ghost intact = { λ a. Accepted K.FORMAT a.layout a.image.now };
 
-    ghost steps = { λ a s after. (after.layout ≡ a.layout) × StepsBytes K.FORMAT a.layout s a.image.now after.image.now };
+    ghost steps = { λ a s after. (after.layout ≡ a.layout)
+        × StepsBytes K.FORMAT a.layout s a.image.now after.image.now };
 
     ghost bounded = { λ a. part_bounded K.FORMAT a.layout a.image.now };
 
@@ -89,9 +90,13 @@ impl<K: Kind> CellArray for Part<'_, K> {
     }
 
     fn mark(&mut self, page: usize, cell: usize) -> Result<(), DeviceFault>
-        ensures kept { Kept (λ a. a.image.ghost_name ∷ []) (λ a. Accepted K.FORMAT a.layout a.image.now) self.old self.new }
-        ensures marks { Marks page cell (part_cells K.FORMAT self.old.layout self.old.image.now) (part_cells K.FORMAT self.new.layout self.new.image.now) result }
-        ensures step { (self.new.layout ≡ self.old.layout) × StepsBytes K.FORMAT self.old.layout (mark_step page cell result) self.old.image.now self.new.image.now }
+        ensures kept { Kept (λ a. a.image.ghost_name ∷ [])
+            (λ a. Accepted K.FORMAT a.layout a.image.now) self.old self.new }
+        ensures marks { Marks page cell (part_cells K.FORMAT self.old.layout self.old.image.now)
+            (part_cells K.FORMAT self.new.layout self.new.image.now) result }
+        ensures step { (self.new.layout ≡ self.old.layout)
+            × StepsBytes K.FORMAT self.old.layout (mark_step page cell result)
+            self.old.image.now self.new.image.now }
     {
         let at = (*self).find(page, cell)?;
         self.image[at] = K::FORMAT.with_set(self.image[at], cell % 8);

@@ -38,7 +38,7 @@ use Rattle.script.specs.declared.reply.Reply.TheVariants.{Refused as RefusedLine
 use Rattle.script.specs.HeadErrors.{image_column, making_column, image_error, making_error}
 use Rattle.script.specs.Lines.{numbered}
 use Rattle.script.specs.Execution.{refusal, ExecutesLines, Answered}
-use Rattle.script.specs.Script.{code_named, heading_rows, MadeStore, HeadAllocates, HeadingFails, OpensStore, Starts, Prints, Answers}
+use Rattle.script.specs.Script.{code_of_heading, heading_rows, MadeStore, HeadAllocates, HeadingFails, OpensStore, Starts, Prints, Answers}
 
 module _ (h : Head GroupWord Number) where
   at_pages : (e : ImageFault) → image_number e ≡ 11 → image_column h e ≡ h.pages.column
@@ -80,11 +80,11 @@ module _ (h : Head GroupWord Number) where
 
   module _ (m : Meaning) (width : m.width ≡ h.width.value) (counts : Served (fresh_rows h.pages.value h.width.value)) where
     -- a making that is refused
-    making_refused : (f : MakingFault) → Refused (making_rows (code_named h) m) (making_number f) → RefusedAt (heading_rows h) (making_number f) (making_column h f)
+    making_refused : (f : MakingFault) → Refused (making_rows (code_of_heading h) m) (making_number f) → RefusedAt (heading_rows h) (making_number f) (making_column h f)
     making_refused f refused = inr (counts.0, inr (counts.1.0, go refused))
       where
         go :
-            Refused (making_rows (code_named h) m) (making_number f) →
+            Refused (making_rows (code_of_heading h) m) (making_number f) →
             RefusedAt
             (placed_row 30 3 ((word_group h.group).order ≡ unusable) ∷
             (placed_row 31 h.n.column ((h.n.value ≡ 0) ⊎ (63 < h.n.value)) ∷ (placed_row 32 h.n.column (h.width.value < h.n.value) ∷ []))) (making_number f) (making_column h f)
@@ -94,18 +94,18 @@ module _ (h : Head GroupWord Number) where
         go (inr (no30, inr (no31, inr (no32, never)))) = absurd never
 
     -- one that is accepted
-    making_accepted : Served (making_rows (code_named h) m) → NotRefused (heading_rows h)
+    making_accepted : Served (making_rows (code_of_heading h) m) → NotRefused (heading_rows h)
     making_accepted served =
         (counts.0, (counts.1.0, (served.0, (served.1.0, ((λ narrow. served.1.1.0 (subst (λ w. w < h.n.value) (sym width) narrow)), tt)))))
 
     -- the store that was made and the lines that it answered
     store_made :
-        (lines : List (List ℕ × ℕ)) (out : List Reply) → Alike (fresh_cells h.pages.value h.width.value) m → Served (making_rows (code_named h) m) →
-        Answered (code_named h) (state_of m blank) lines out → MadeStore h lines out
+        (lines : List (List ℕ × ℕ)) (out : List Reply) → Alike (fresh_cells h.pages.value h.width.value) m → Served (making_rows (code_of_heading h) m) →
+        Answered (code_of_heading h) (state_of m blank) lines out → MadeStore h lines out
     store_made lines out fresh served answered =
         let execution = answered.execution in
         let p =
-        promised (code_named h) (word_lawful h.group) (λ i. refl) (state_of m blank) execution.history answered.last
+        promised (code_of_heading h) (word_lawful h.group) (λ i. refl) (state_of m blank) execution.history answered.last
         (record { changes = omega arith; renewals = omega arith; marked = omega arith }) execution.linked execution.obeys in
         record {
           accepted = making_accepted served;
@@ -153,7 +153,7 @@ module _ (p : HeadPlace) where
   module _ (m : Meaning) (fresh : Alike (fresh_cells p.heading.pages.value p.heading.width.value) m)
       (counts : Served (fresh_rows p.heading.pages.value p.heading.width.value)) where
     pub store_refused :
-        {B : Type 0} (r : Result B MakingFault) (e : HeadPlace × MakingFault) → located p r ≡ Err e → Makes (code_named p.heading) m r →
+        {B : Type 0} (r : Result B MakingFault) (e : HeadPlace × MakingFault) → located p r ≡ Err e → Makes (code_of_heading p.heading) m r →
         HeadingFails p.line p.heading (making_error e.0.line e.0.heading e.1)
     store_refused (Ok u) e is makes = absurd (let z : ◌≡◌ {A = ℕ} 0 1 = cc in omega arith)
     store_refused (Err f) e is makes =
@@ -162,8 +162,8 @@ module _ (p : HeadPlace) where
         (making_refused p.heading m fresh.shape.width counts f makes, refl)
 
     pub store_opened :
-        {B : Type 0} (r : Result B MakingFault) (u : B) (lines : List (List ℕ × ℕ)) (out : List Reply) → located p r ≡ Ok u → Makes (code_named p.heading) m r →
-        Answered (code_named p.heading) (state_of m blank) lines out → MadeStore p.heading lines out
+        {B : Type 0} (r : Result B MakingFault) (u : B) (lines : List (List ℕ × ℕ)) (out : List Reply) → located p r ≡ Ok u → Makes (code_of_heading p.heading) m r →
+        Answered (code_of_heading p.heading) (state_of m blank) lines out → MadeStore p.heading lines out
     store_opened (Ok v) u lines out is makes answered = store_made p.heading m fresh.shape.width counts lines out fresh makes answered
     store_opened (Err f) u lines out is makes answered = absurd (let z : ◌≡◌ {A = ℕ} 0 1 = cc in omega arith)
 

@@ -32,8 +32,8 @@ use Rattle.script.specs.Lines.{numbered}
 use Rattle.script.specs.Execution.{refusal, ExecutesLines}
 
 -- the code that a heading names
-abbrev pub code_named : Head GroupWord Number → Code
-code_named h = code (word_group h.group) h.n.value
+abbrev pub code_of_heading : Head GroupWord Number → Code
+code_of_heading h = code (word_group h.group) h.n.value
 
 -- What refuses a heading, in the order of the checks, each at its word.
 abbrev pub heading_rows : Head GroupWord Number → List PlacedRow
@@ -54,9 +54,9 @@ pub record MadeStore (h : Head GroupWord Number) (lines : List (List ℕ × ℕ)
   pub nothing_counted : first.ledger ≡ blank_ledger
   pub calls : List Call
   pub answers : List Answer
-  pub promise : Promise (code_named h) first calls answers last
+  pub promise : Promise (code_of_heading h) first calls answers last
   pub others : List Reply
-  pub prints : out ≡ Made (records (code_named h) first.cells) ∷ others
+  pub prints : out ≡ Made (records (code_of_heading h) first.cells) ∷ others
   pub executes : ExecutesLines lines first promise.history others
 
 -- a head that is not well written, at line k

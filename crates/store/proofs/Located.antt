@@ -10,7 +10,3 @@ module _ {A : Type 0} (k : ℕ) where
 
   pub located_is : (r : Result A DeviceFault) (x y : A) → located k r ≡ Ok x → r ≡ Ok y → x ≡ y
   located_is r x y e is = let same : ◌≡◌ {A = Result A (ℕ × DeviceFault)} (Ok x) (Ok y) = sym e ∙ ap (located k) is in cc
-
-  pub located_refused : (r : Result A DeviceFault) (e : ℕ × DeviceFault) (P : A → Type 0) → located k r ≡ Err e → IsOkAnd r P → ⊥
-  located_refused (Ok y) e P is holds = cc
-  located_refused (Err f) e P is none = none

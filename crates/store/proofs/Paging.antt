@@ -10,7 +10,7 @@ use Rattle.coset.specs.Code.{Code, every, sum_of, Unreachable, Plan}
 use Rattle.coset.specs.CellSets.{members_of}
 use Rattle.coset.specs.declared.cellset.CellSet.{CellSet}
 use Rattle.calls.specs.Calls.{sizes}
-use Rattle.store.specs.Steps.{set_from, SetsCells, nth_place, target, PlansOfPage, PageWritten}
+use Rattle.store.specs.Parts.{set_from, SetsCells, nth_place, target, PlansOfPage, PageWritten}
 use Rattle.store.proofs.Setting.{shaped_then}
 
 -- the value of a set of cells is within reach from empty

@@ -19,7 +19,7 @@ use Rattle.calls.specs.Records.{makes, per_page, records, page_of, free, value}
 use Rattle.calls.specs.Calls.{state_of, Renewed, renewed_value, rows, Obeys}
 use Rattle.calls.proofs.Geometry.{There, there, number_of, page_back, place_back}
 use Rattle.store.specs.declared.place.Found.{Found}
-use Rattle.store.specs.Steps.{FoundRecord, set_from, nth_place, target, PlansOfPage, PageWritten}
+use Rattle.store.specs.Parts.{FoundRecord, set_from, nth_place, target, PlansOfPage, PageWritten}
 use Rattle.store.proofs.Setting.{shaped_then}
 use Rattle.store.proofs.Located.{located_ok}
 use Rattle.store.proofs.Serving.{unreachable_free, open_cells, open_free}

@@ -7,7 +7,7 @@ use Rattle.store.specs.declared.place.Place.{Place}
 use Rattle.store.specs.declared.place.Found.{Found}
 use Rattle.coset.specs.Code.{Code, sum_of, Unreachable, Plan}
 use Rattle.calls.specs.Records.{per_page, page_of, first_of, held, free, value}
-use Rattle.store.specs.Steps.{FoundRecord, LiesAt, Inside, set_from}
+use Rattle.store.specs.Parts.{FoundRecord, LiesAt, Inside, set_from}
 use Rattle.coset.proofs.Sums.{Agree, sum_agree}
 use Rattle.calls.proofs.Geometry.{There, there, place_within}
 

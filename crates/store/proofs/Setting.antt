@@ -5,7 +5,7 @@ use Rattle.cells.specs.Cells.{Cells, Shaped, Cell}
 use Rattle.cells.specs.Sets.{Cellset}
 use Rattle.cells.specs.Device.{Marked}
 use Rattle.store.specs.declared.place.Place.{Place}
-use Rattle.store.specs.Steps.{Inside, set_from, SetsCells}
+use Rattle.store.specs.Parts.{Inside, set_from, SetsCells}
 
 -- the cells of s below k
 abbrev pub first_of_set : Cellset → ℕ → Cellset

@@ -18,7 +18,7 @@ use Rattle.calls.specs.Steps.{marks_of, newly_set}
 use Rattle.calls.proofs.Marks.{marks_none, marks_agree, marks_both, marks_beyond}
 use Rattle.calls.proofs.Counting.{added}
 use Rattle.store.specs.declared.place.Found.{Found}
-use Rattle.store.specs.Steps.{FoundRecord, SetsCells, PageWritten}
+use Rattle.store.specs.Parts.{FoundRecord, SetsCells, PageWritten}
 
 module _ {A : Type 0} (array : Ghosts A) where
   -- an erase, by its answer with the record beside a refusal

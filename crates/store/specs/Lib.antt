@@ -1,3 +1,3 @@
 pub mod Keeps
 pub mod Making
-pub mod Steps
+pub mod Parts

@@ -1,5 +1,5 @@
-// The store: records in the pages of a cell array, read and written by calls one at a time or in lists.
-// Whatever the list, the whole promise holds of it.
+//! The store: records in the pages of a cell array, read and written by calls one at a time or in lists.
+//! Whatever the list, the whole promise holds of it.
 #![tactic(auto)]
 
 pub mod list;

@@ -23,8 +23,10 @@ pub trait Request<A: CellArray> {
     /// Makes the call on a store, with the answer of `get`, `put` or `renew`.
     fn serve<G: Group>(&self, store: &mut Store<G, A>) -> Result<u32, StoreFault>
         ensures keeps { Keeps A.CellArray store.old store.new }
-        ensures obeys { Obeys (code_of G.Group store.old.code) (call self.now) result (state A.CellArray store.old) (state A.CellArray store.new) }
-        ensures takes { TakesStepsOf G.Group A.CellArray (call self.now) result store.old store.new };
+        ensures obeys { Obeys (code_of G.Group store.old.code) (call self.now) result
+            (state A.CellArray store.old) (state A.CellArray store.new) }
+        ensures takes { TakesStepsOf G.Group A.CellArray (call self.now) result
+            store.old store.new };
 }
 
 // By cases, since a call is data.
@@ -54,8 +56,8 @@ impl<A: CellArray> Request<A> for Access {
 
 impl<G: Group, A: CellArray> Store<G, A> {
     /// Serves the calls of a list in order, and puts the answer of each beside it, over whatever stood there. Every list
-    /// is served to its end, however long, and every call of it answered: a call that is refused alters nothing, and the
-    /// next one is served all the same.
+    /// is served to its end, however long, and every call of it answered: one that is refused alters no cell, no wear and
+    /// no count, and the next one is served all the same.
     pub fn serve_all<C: Request<A>>(&mut self, entries: &mut [Entry<C>])
         ensures keeps { Keeps A.CellArray self.old self.new }
         ensures served { ListServed A.CellArray (code_of G.Group self.old.code) C.call

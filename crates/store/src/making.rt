@@ -1,5 +1,5 @@
-// The check of a making: whether a code and an array make a store that has records.
-// The first row that holds is answered, by its own fault.
+//! The check of a making: whether a code and an array make a store that has records.
+//! The first row that holds is answered, by its own fault.
 ghost use Rattle.std.specs.Prelude.{◌≡◌};
 ghost use Rattle.coset.specs.Codes.{code_of};
 ghost use Rattle.store.specs.Making.{making_number, Makes};
@@ -9,18 +9,19 @@ use coset::cellset::MAX_CELLS;
 use coset::code::Code;
 use group::interface::Group;
 
+/// Why a making is refused.
 #[derive(Clone, Copy, PartialEq, Debug)]
 pub enum MakingFault {
-    // the group cannot be used
+    /// The group cannot be used.
     Unusable,
-    // no cells to a record, or more than 63
+    /// No cells to a record, or more than 63.
     Cells,
-    // the array's pages are narrower than a record
+    /// The array's pages are narrower than a record.
     Narrow,
 }
 
 impl MakingFault {
-    // The number of the table of refusals, by cases, as that table has it.
+    /// The number of the table of refusals, by cases, as that table has it.
     pub fn number(self) -> u32
         ensures { result ≡ making_number self }
     {
@@ -32,7 +33,7 @@ impl MakingFault {
     }
 }
 
-// Whether a store of these has records, or why it has none.
+/// Whether a store of these has records, or why it has none: 30, 31 or 32, in this order.
 pub fn check_making<G: Group, A: CellArray>(code: &Code<G>, array: &A) -> Result<(), MakingFault>
     ensures { Makes (code_of G.Group code.now) (A.cells array.now) result }
 {

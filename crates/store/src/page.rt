@@ -1,5 +1,5 @@
-// Whole pages: planning every record of a page from empty, and writing the plans into it.
-// A renewal does both, with an erase between them.
+//! Whole pages: planning every record of a page from empty, and writing the plans into it.
+//! A renewal does both, with an erase between them.
 ghost use Rattle.std.specs.Prelude.{length, ◌≡◌, ℕ, ◌*◌, ◌<◌, ◌≤◌, false, IsOkAnd, MatchResult};
 ghost use Rattle.coset.specs.Code.{Unreachable, every};
 ghost use Rattle.cells.specs.Device.{Kept};
@@ -7,7 +7,7 @@ ghost use Rattle.cells.specs.Chain.{Takes};
 ghost use Rattle.calls.specs.declared.fault.StoreFault.TheVariants.{Unreached};
 ghost use Rattle.calls.specs.Records.{records};
 ghost use Rattle.calls.specs.Steps.{marks_of};
-ghost use Rattle.store.specs.Steps.{PlansForRenewal, PageWritten};
+ghost use Rattle.store.specs.Parts.{PlansForRenewal, PageWritten};
 ghost use Rattle.coset.specs.Codes.{code_of};
 
 use crate::place::{PagePlans, Place};
@@ -26,7 +26,8 @@ impl<G: Group, A: CellArray> Store<G, A> {
     pub(crate) fn plan_page(&self, record: usize, value: u32) -> Result<PagePlans, StoreFault>
         requires { «record» < records (code_of G.Group self.now.code) (A.cells self.now.array) }
         ensures { let c = code_of G.Group self.now.code in
-            MatchResult result (λ plans. PlansForRenewal c (A.cells self.now.array) «record» value plans.items)
+            let m = A.cells self.now.array in
+            MatchResult result (λ plans. PlansForRenewal c m «record» value plans.items)
             (λ fault. Unreachable c every value × (fault ≡ Unreached «record»)) }
     {
         let records = self.per_page();
@@ -62,10 +63,13 @@ pub(crate) fn write_page<A: CellArray>(
     requires shared { length plans.now ≤ 64 }
     requires fits { length plans.now * n ≤ (A.cells array.old).width }
     requires page { page < (A.cells array.old).pages }
-    requires unset { (j : ℕ) → j < (A.cells array.old).width → (A.cells array.old).set page j ≡ false }
+    requires unset { let m = A.cells array.old in
+        (j : ℕ) → j < m.width → m.set page j ≡ false }
     ensures kept { Kept A.held A.intact array.old array.new }
-    ensures takes { Takes A.CellArray (marks_of page 0 ((A.cells array.new).set page) (length plans.now * n)) array.old array.new }
-    ensures written { IsOkAnd result (PageWritten n page (length plans.now) plans.now (A.cells array.old) (A.cells array.new)) }
+    ensures takes { let set = (A.cells array.new).set page in
+        Takes A.CellArray (marks_of page 0 set (length plans.now * n)) array.old array.new }
+    ensures written { let b = length plans.now in
+        IsOkAnd result (PageWritten n page b plans.now (A.cells array.old) (A.cells array.new)) }
 {
     let mut marked = 0;
     for (r, plan) in plans.iter().enumerate() {

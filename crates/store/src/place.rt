@@ -1,5 +1,5 @@
-// Where a record lies, what was found there, and the plans of a whole page.
-// The cells of a record are n cells in a row.
+//! Where a record lies, what was found there, and the plans of a whole page.
+//! The cells of a record are n cells in a row.
 use arrayvec::ArrayVec;
 use coset::cellset::CellSet;
 

@@ -1,5 +1,5 @@
-// The cells of one record: finding and reading them, and setting some of them. Each works on any cell array, and hands a
-// refusal of the array on; that there is none for cells that are inside the array, each contract says.
+//! The cells of one record: finding and reading them, and setting some of them. Each works on any cell array, and hands a
+//! refusal of the array on; that there is none for cells that are inside the array, each contract says.
 ghost use Rattle.std.specs.Prelude.{◌≡◌, ℕ, ◌<◌, IsOkAnd, Ok};
 ghost use Rattle.cells.specs.Device.{Kept};
 ghost use Rattle.cells.specs.Chain.{Takes};
@@ -7,7 +7,7 @@ ghost use Rattle.cells.specs.Sets.{size_below};
 ghost use Rattle.calls.specs.Steps.{marks_of};
 ghost use Rattle.coset.specs.CellSets.{members_of};
 ghost use Rattle.coset.specs.Code.{sum_of};
-ghost use Rattle.store.specs.Steps.{Inside, LiesAt, Finds, FindsFor, set_from, SetsCells};
+ghost use Rattle.store.specs.Parts.{Inside, LiesAt, Finds, FindsFor, set_from, SetsCells};
 ghost use Rattle.coset.specs.Codes.{code_of};
 
 use crate::place::{Found, Place};
@@ -21,7 +21,7 @@ use group::interface::Group;
 impl<G: Group, A: CellArray> Store<G, A> {
     // The record of a number, with its set cells and its value.
     pub(crate) fn find(&self, record: usize) -> Result<Found, StoreFault>
-        ensures { Finds (code_of G.Group self.now.code) (A.CellArray.cells self.now.array) «record» result }
+        ensures { Finds (code_of G.Group self.now.code) (A.cells self.now.array) «record» result }
     {
         let place = self.place(record)?;
         let held = self.read(place).located_at(record)?;
@@ -31,7 +31,8 @@ impl<G: Group, A: CellArray> Store<G, A> {
 
     // The record of a number that is to hold a value: it and the value have to be there.
     pub(crate) fn find_for(&self, record: usize, value: u32) -> Result<Found, StoreFault>
-        ensures { FindsFor (code_of G.Group self.now.code) (A.CellArray.cells self.now.array) «record» value result }
+        ensures { FindsFor (code_of G.Group self.now.code) (A.cells self.now.array)
+            «record» value result }
     {
         let found = self.find(record)?;
         if !self.code.group.has(value) {
@@ -41,7 +42,7 @@ impl<G: Group, A: CellArray> Store<G, A> {
     }
 
     pub(crate) fn place(&self, record: usize) -> Result<Place, StoreFault>
-        ensures { LiesAt (code_of G.Group self.now.code) (A.CellArray.cells self.now.array) «record» result }
+        ensures { LiesAt (code_of G.Group self.now.code) (A.cells self.now.array) «record» result }
     {
         if record >= self.records() {
             return Err(StoreFault::NoRecord { record });
@@ -58,7 +59,8 @@ impl<G: Group, A: CellArray> Store<G, A> {
     // a place together, and `write` alters the array.
     fn read(&self, at: Place) -> Result<CellSet, DeviceFault>
         requires { Inside (A.cells self.now.array) self.now.code.cells at }
-        ensures { IsOkAnd result (λ set. (i : ℕ) → i < self.now.code.cells → members_of set i ≡ set_from (A.cells self.now.array) at i) }
+        ensures { let there = set_from (A.cells self.now.array) at in
+            IsOkAnd result (λ set. (i : ℕ) → i < self.now.code.cells → members_of set i ≡ there i) }
     {
         let mut set = CellSet::empty();
         for cell in 0..self.code.cells {
@@ -70,7 +72,8 @@ impl<G: Group, A: CellArray> Store<G, A> {
     // The value of a record.
     pub(crate) fn value_at(&self, at: Place) -> Result<u32, DeviceFault>
         requires { Inside (A.cells self.now.array) self.now.code.cells at }
-        ensures { result ≡ Ok (sum_of (code_of G.Group self.now.code) (set_from (A.cells self.now.array) at)) }
+        ensures { let there = set_from (A.cells self.now.array) at in
+            result ≡ Ok (sum_of (code_of G.Group self.now.code) there) }
     {
         Ok(self.code.label_sum(&self.read(at)?))
     }
@@ -86,7 +89,8 @@ pub(crate) fn write<A: CellArray>(
 ) -> Result<u32, DeviceFault>
     requires { Inside (A.cells array.old) n at }
     ensures kept { Kept A.held A.intact array.old array.new }
-    ensures takes { Takes A.CellArray (marks_of at.page at.first (members_of set.now) n) array.old array.new }
+    ensures takes { Takes A.CellArray (marks_of at.page at.first (members_of set.now) n)
+        array.old array.new }
     ensures sets { SetsCells n at (members_of set.now) (A.cells array.old) (A.cells array.new) }
     ensures count { result ≡ Ok (size_below (members_of set.now) n) }
 {

@@ -63,8 +63,9 @@ pub fn run_call<G: Group + Drop, A: Erasable>(
     ensures kept { Kept A.held A.intact array.old array.new }
     ensures obeys { (counts : Counts) × Obeys (code_of G.Group code) call result
         (state_of (A.cells array.old) blank) (state_of (A.cells array.new) counts) }
-    ensures takes { Takes A.CellArray (steps_of (code_of G.Group code) call result (A.cells array.old) (A.cells array.new))
-        array.old array.new }
+    ensures takes { let c = code_of G.Group code in
+        let steps = steps_of c call result (A.cells array.old) (A.cells array.new) in
+        Takes A.CellArray steps array.old array.new }
 {
     let (array, answer) = call_over(code, array, call);
     let _ = array;
@@ -96,8 +97,9 @@ fn call_over<G: Group + Drop, A: Erasable>(
     ensures kept { Kept A.held A.intact array result.0 }
     ensures obeys { (counts : Counts) × Obeys (code_of G.Group code) call result.1
         (state_of (A.cells array) blank) (state_of (A.cells result.0) counts) }
-    ensures takes { Takes A.CellArray (steps_of (code_of G.Group code) call result.1 (A.cells array) (A.cells result.0))
-        array result.0 }
+    ensures takes { let c = code_of G.Group code in
+        let steps = steps_of c call result.1 (A.cells array) (A.cells result.0) in
+        Takes A.CellArray steps array result.0 }
 {
     let mut store = Store::new(code, array);
     let answer = call.serve(&mut store);

@@ -1,5 +1,5 @@
-// The store: records of a coset code in the pages of a cell array, and the ledger of its calls.
-// A store made against its check has no records, and so refuses every call.
+//! The store: records of a coset code in the pages of a cell array, and the ledger of its calls.
+//! A store made against its check has no records, and so refuses every call.
 ghost use Rattle.std.specs.Prelude.{◌≡◌, ◌≤◌, not, if◌then◌else◌};
 ghost use Rattle.group.specs.Group.{step};
 ghost use Rattle.calls.specs.declared.call.Call.TheVariants.{Get, Put, Renew};
@@ -21,6 +21,7 @@ use coset::cellset::CellSet;
 use coset::code::Code;
 use group::interface::Group;
 
+/// A code, an array, and what was counted of the calls since the making.
 #[derive(Drop)]
 pub struct Store<G, A> {
     pub(crate) code: Code<G>,
@@ -29,7 +30,7 @@ pub struct Store<G, A> {
 }
 
 impl<G: Group, A: CellArray> Store<G, A> {
-    // Any code and array make a store; the cells are left as they are.
+    /// Any code and array make a store; the cells are left as they are.
     pub fn new(code: Code<G>, array: A) -> Store<G, A>
         ensures code { result.code ≡ code }
         ensures array { result.array ≡ array }
@@ -58,7 +59,9 @@ impl<G: Group, A: CellArray> Store<G, A> {
 
     // The records to a page; none where the making's check refuses.
     pub(crate) fn per_page(&self) -> usize
-        ensures { result ≡ (if makes (code_of G.Group self.now.code) (A.cells self.now.array) then per_page (code_of G.Group self.now.code) (A.cells self.now.array) else 0) }
+        ensures { let c = code_of G.Group self.now.code in
+            let m = A.cells self.now.array in
+            result ≡ (if makes c m then per_page c m else 0) }
     {
         check_making(&self.code, &self.array).map_or(
             0,
@@ -66,6 +69,7 @@ impl<G: Group, A: CellArray> Store<G, A> {
         )
     }
 
+    /// How many records there are; none where the making's check refuses.
     pub fn records(&self) -> usize
         ensures { result ≡ records (code_of G.Group self.now.code) (A.cells self.now.array) }
     {
@@ -75,52 +79,60 @@ impl<G: Group, A: CellArray> Store<G, A> {
     // The fewest cells that are not set and take a record to a value.
     fn plan_to(&self, found: &Found, value: u32) -> Option<CellSet>
         requires { self.now.code.cells ≤ 63 }
-        ensures { Plans (code_of G.Group self.now.code) (λ i. not (members_of found.now.held i)) (step (G.Group.meaning self.now.code.group) found.now.value value) result }
+        ensures { let c = code_of G.Group self.now.code in
+            Plans c (λ i. not (members_of found.now.held i))
+            (step c.group found.now.value value) result }
     {
         let step = self.code.group.step(found.value, value);
         self.code.plan(&found.held.complement(), step)
     }
 
-    // What was counted since the making.
+    /// What was counted since the making.
     pub fn ledger(&self) -> Ledger
         ensures { result ≡ self.now.ledger }
     {
         self.ledger
     }
 
-    // The value of a record.
+    /// The value of a record. It alters nothing. Refused by 40.
     pub fn get(&self, record: usize) -> Result<u32, StoreFault>
-        ensures obeys { Obeys (code_of G.Group self.now.code) (Get «record») result (state A.CellArray self.now) (state A.CellArray self.now) }
+        ensures obeys { let now = state A.CellArray self.now in
+            Obeys (code_of G.Group self.now.code) (Get «record») result now now }
         ensures takes { TakesStepsOf G.Group A.CellArray (Get «record») result self.now self.now }
     {
         Ok(self.find(record)?.value)
     }
 
-    // Sets the fewest cells that take a record to a value, and answers how many. A record and a value are two numbers
-    // here and below; where there is a list, `Call` holds both.
+    /// Marks the fewest unset cells that take a record to a value, each once and rising, and no other; it answers how
+    /// many. Refused by 40, 41 or 42, and then nothing is altered. A record and a value are two numbers here and below;
+    /// where there is a list, `Call` holds both.
     pub fn put(&mut self, record: usize, value: u32) -> Result<u32, StoreFault>
         ensures keeps { Keeps A.CellArray self.old self.new }
-        ensures obeys { Obeys (code_of G.Group self.old.code) (Put «record» value) result (state A.CellArray self.old) (state A.CellArray self.new) }
-        ensures takes { TakesStepsOf G.Group A.CellArray (Put «record» value) result self.old self.new }
+        ensures obeys { Obeys (code_of G.Group self.old.code) (Put «record» value) result
+            (state A.CellArray self.old) (state A.CellArray self.new) }
+        ensures takes { TakesStepsOf G.Group A.CellArray (Put «record» value) result
+            self.old self.new }
     {
         let found = self.find_for(record, value)?;
         let Some(plan) = self.plan_to(&found, value) else {
             return Err(StoreFault::Full { record });
         };
-        let marked = record::write(&mut self.array, self.code.cells, found.place, &plan).located_at(
-            record,
-        )?;
+        let written = record::write(&mut self.array, self.code.cells, found.place, &plan);
+        let marked = written.located_at(record)?;
         self.ledger.note_put(found.value != value, marked);
         Ok(marked)
     }
 }
 
 impl<G: Group, A: Erasable> Store<G, A> {
-    // Erases the page of a record, and writes its records again: this one with a new value, the others with theirs.
+    /// Erases the page of a record once, and writes its records again, rising: this one with a new value, the others with
+    /// theirs. It answers how many cells it marked. Refused by 40, 41, 43, 44 or 22, and then no cell is altered.
     pub fn renew(&mut self, record: usize, value: u32) -> Result<u32, StoreFault>
         ensures keeps { Keeps A.CellArray self.old self.new }
-        ensures obeys { Obeys (code_of G.Group self.old.code) (Renew «record» value) result (state A.CellArray self.old) (state A.CellArray self.new) }
-        ensures takes { TakesStepsOf G.Group A.CellArray (Renew «record» value) result self.old self.new }
+        ensures obeys { Obeys (code_of G.Group self.old.code) (Renew «record» value) result
+            (state A.CellArray self.old) (state A.CellArray self.new) }
+        ensures takes { TakesStepsOf G.Group A.CellArray (Renew «record» value) result
+            self.old self.new }
     {
         let found = self.find_for(record, value)?;
         // As a pattern, which tells the proof that there is no plan.
@@ -130,12 +142,8 @@ impl<G: Group, A: Erasable> Store<G, A> {
         let plans = self.plan_page(record, value)?;
         let page = found.place.page;
         self.array.erase(page).located_at(record)?;
-        let marked = page::write_page(
-            &mut self.array,
-            self.code.cells,
-            page,
-            plans.as_slice(),
-        ).located_at(record)?;
+        let written = page::write_page(&mut self.array, self.code.cells, page, plans.as_slice());
+        let marked = written.located_at(record)?;
         self.ledger.note_renewal(marked);
         Ok(marked)
     }

@@ -2,7 +2,7 @@ use Rattle.std.proofs.Common.{◌*◌}
 use Rattle.cells.specs.Device.{Kept}
 use Rattle.cells.specs.Chain.{Takes}
 use Rattle.calls.specs.Steps.{marks_of}
-use Rattle.store.specs.Steps.{PageWritten}
+use Rattle.store.specs.Parts.{PageWritten}
 use Rattle.store.proofs.page.write_page.Given as goal
 
 abbrev pub invariant-loop-r : goal.invariant-loop-r

@@ -6,7 +6,7 @@ use Rattle.cells.proofs.Chains.{chain_both, chain_one}
 use Rattle.coset.specs.CellSets.{members_of}
 use Rattle.calls.specs.Steps.{marks_of}
 use Rattle.calls.proofs.Marks.{marks_none, marks_with, marks_without}
-use Rattle.store.specs.Steps.{SetsCells}
+use Rattle.store.specs.Parts.{SetsCells}
 use Rattle.store.proofs.Setting.{first_of_set, sets_none, sets_with, sets_without}
 use Rattle.store.proofs.record.write.Goals as goal
 use Rattle.store.proofs.record.write.Goals.{then-contains+in_ok-mark, else-contains}

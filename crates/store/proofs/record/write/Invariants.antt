@@ -4,7 +4,7 @@ use Rattle.cells.specs.Device.{Kept}
 use Rattle.cells.specs.Chain.{Takes}
 use Rattle.calls.specs.Steps.{marks_of}
 use Rattle.coset.specs.CellSets.{members_of}
-use Rattle.store.specs.Steps.{SetsCells}
+use Rattle.store.specs.Parts.{SetsCells}
 use Rattle.store.proofs.record.write.Given as goal
 
 abbrev pub invariant-loop-cell : goal.invariant-loop-cell

@@ -17,5 +17,5 @@ returns-clause-served g c =
     let served = c.serve_over-array.new.entries in
     let all : ListServed array (code_of g.G.Group c.args.code) (λ (call : Call). call) c.args.array.now blank asked served after.now counts =
     lent_list array (code_of g.G.Group c.args.code) (λ (call : Call). call) _ blank asked served after counts made.answers made.calls_kept made.all_answered
-    made.promise.promise made.promise.takes made.promise.marked in
+    made.kept.promise made.kept.takes made.kept.marks_answered made.kept.marked in
     search rules

@@ -1,7 +1,7 @@
 use Rattle.std.proofs.Common.{◌≡◌, ℕ, ◌<◌, sym, ◌∙◌}
 use Rattle.coset.specs.Code.{code}
 use Rattle.coset.specs.CellSets.{members_of}
-use Rattle.store.specs.Steps.{set_from}
+use Rattle.store.specs.Parts.{set_from}
 use Rattle.store.proofs.Located.{located_ok}
 use Rattle.store.proofs.Serving.{found_inside, read_value, read_held}
 use Rattle.store.proofs.store.Store.find.Goals as goal

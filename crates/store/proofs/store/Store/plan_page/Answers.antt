@@ -3,7 +3,7 @@ use Rattle.std.proofs.lemmas.Bool.{cond-true, cond-false, eq-eqb, ne_eqb}
 use Rattle.coset.specs.Code.{code, every, Plan}
 use Rattle.coset.specs.CellSets.{members_of}
 use Rattle.calls.proofs.Geometry.{there}
-use Rattle.store.specs.Steps.{target, PlansOfPage}
+use Rattle.store.specs.Parts.{target, PlansOfPage}
 use Rattle.store.proofs.Paging.{page_more, page_fits, rows_within}
 use Rattle.store.proofs.Renewing.{records_to_page}
 use Rattle.store.proofs.Located.{located_is}

@@ -1,6 +1,6 @@
 use Rattle.std.proofs.Common.{◌%◌}
 use Rattle.coset.specs.Codes.{code_of}
-use Rattle.store.specs.Steps.{PlansOfPage}
+use Rattle.store.specs.Parts.{PlansOfPage}
 use Rattle.store.proofs.store.Store.plan_page.Given as goal
 
 abbrev pub invariant-loop-r : goal.invariant-loop-r

@@ -1,6 +1,6 @@
 use Rattle.std.proofs.Common.{◌≡◌, ℕ, ◌<◌, ◌≤◌, false}
 use Rattle.coset.specs.CellSets.{members_of}
-use Rattle.store.specs.Steps.{set_from}
+use Rattle.store.specs.Parts.{set_from}
 use Rattle.store.proofs.store.Store.read.Given as goal
 
 abbrev pub invariant-loop-cell : goal.invariant-loop-cell

@@ -41,7 +41,7 @@ returns-clause-obeys g c =
     let co = code (g.G.Group.meaning c.args.self.now.code.group) c.args.self.now.code.cells in
     let m = g.A.CellArray.cells c.args.self.now.array in
     let m' = g.A.CellArray.cells c.erase.new.self in
-    let m'' = g.A.CellArray.cells c.write_page.new.array in
+    let m'' = g.A.CellArray.cells c.write_page-written.new.array in
     let k = c.args.«record» in
     let found = c.in_ok-found.found in
     let page = found.place.page in
@@ -49,8 +49,8 @@ returns-clause-obeys g c =
     let planned = c.in_ok-plans.ensures in
     let done = erase_served k page m m' c.erase.result tt (sym c.located_at.ensures ∙ c.in_ok-located_at.was) c.erase.ensures.erases in
     let written =
-    page_written k co.cells page (per_page co m) c.in_ok-marked.marked c.as_slice.result.now plans m' m'' c.write_page.result
-    (sym c.located_at-2.ensures ∙ c.in_ok-marked.was) c.write_page.ensures.written c.as_slice.ensures.value planned.all in
+    page_written k co.cells page (per_page co m) c.in_ok-marked.marked c.as_slice.result.now plans m' m'' c.write_page-written.result
+    (sym c.located_at-2.ensures ∙ c.in_ok-marked.was) c.write_page-written.ensures.written c.as_slice.ensures.value planned.all in
     let noted = c.note_renewal.ensures in
     renew_served co m k found c.in_ok-found.ensures.0 c.args.value c.in_ok-found.ensures.1 c.in-None.ensures plans planned m' m''
     c.args.self.now.ledger c.note_renewal.new.self c.in_ok-marked.marked done.0.1.0 done.1 written noted.changes noted.renewals noted.marked
@@ -62,7 +62,7 @@ returns-clause-takes g c =
     let a = c.args.self.now.array in
     let m = array.cells a in
     let m' = array.cells c.erase.new.self in
-    let m'' = array.cells c.write_page.new.array in
+    let m'' = array.cells c.write_page-written.new.array in
     let k = c.args.«record» in
     let n = co.cells in
     let page = c.in_ok-found.found.place.page in
@@ -74,9 +74,9 @@ returns-clause-takes g c =
     let erased = erase_takes array k page a c.erase.new.self c.erase.result tt read c.erase.ensures.erases c.erase.ensures.step in
     let all = ap length c.as_slice.ensures.value ∙ planned.all in
     let written =
-    page_written k n page (per_page co m) c.in_ok-marked.marked c.as_slice.result.now plans m' m'' c.write_page.result
-    (sym c.located_at-2.ensures ∙ c.in_ok-marked.was) c.write_page.ensures.written c.as_slice.ensures.value planned.all in
-    subst (λ p. Takes array (Erase p ∷ marks_of p 0 (m''.set p) m.width) a c.write_page.new.array) known.place.1
-    (renew_takes array n page (per_page co m) m.width plans c.in_ok-marked.marked m' m'' a c.erase.new.self c.write_page.new.array
+    page_written k n page (per_page co m) c.in_ok-marked.marked c.as_slice.result.now plans m' m'' c.write_page-written.result
+    (sym c.located_at-2.ensures ∙ c.in_ok-marked.was) c.write_page-written.ensures.written c.as_slice.ensures.value planned.all in
+    subst (λ p. Takes array (Erase p ∷ marks_of p 0 (m''.set p) m.width) a c.write_page-written.new.array) known.place.1
+    (renew_takes array n page (per_page co m) m.width plans c.in_ok-marked.marked m' m'' a c.erase.new.self c.write_page-written.new.array
     (page_fits n m.width (per_page co m) (omega arith)) (sym done.1.shape.width) written erased
-    (subst (λ b. Takes array (marks_of page 0 (m''.set page) (b * n)) c.erase.new.self c.write_page.new.array) all c.write_page.ensures.takes))
+    (subst (λ b. Takes array (marks_of page 0 (m''.set page) (b * n)) c.erase.new.self c.write_page-written.new.array) all c.write_page-written.ensures.takes))

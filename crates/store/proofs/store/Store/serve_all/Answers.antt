@@ -67,7 +67,7 @@ returns-clause-served g c =
       answers = rs;
       calls_kept = ap (map (λ (x : Entry g.row.C.Denot). x.call)) inv.filled ∙ calls_kept rs es long;
       all_answered = ap (map (λ (x : Entry g.row.C.Denot). x.answer)) inv.filled ∙ all_answered rs es long;
-      promise =
+      kept =
           runs_promise array co c.args.self.now.array c.args.self.now.ledger (map call es) rs c.loop-entry.self.array c.loop-entry.self.ledger
           (g.met.G.Group.lawful c.args.self.now.code.group) (λ i. refl) c.largest-largest.ensures
           (subst (λ xs. Runs array co (state array c.args.self.now) (map call xs) rs (state array c.loop-entry.self) c.args.self.now.array c.loop-entry.self.array)

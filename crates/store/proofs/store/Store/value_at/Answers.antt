@@ -2,7 +2,7 @@ use Rattle.std.proofs.Common.{Ok, ap, ◌∙◌}
 use Rattle.coset.specs.Code.{code}
 use Rattle.coset.specs.CellSets.{members_of}
 use Rattle.coset.proofs.Sums.{sum_agree}
-use Rattle.store.specs.Steps.{set_from}
+use Rattle.store.specs.Parts.{set_from}
 use Rattle.store.proofs.store.Store.value_at.Goals as goal
 
 pub returns : goal.returns

@@ -1,4 +1,4 @@
--- The steps of the calls: finding a record, reading it, and setting cells in it. Assumes nothing.
+-- What the parts of a call do: finding a record, reading it, and setting cells in it. Assumes nothing.
 use Rattle.std.specs.Prelude.{◌≡◌, ℕ, ◌+◌, ◌*◌, ◌%◌, ◌<◌, ◌≤◌, false, cond, ◌||◌, ◌⊎◌, List, Ok, Err, Result, ◌==◌, ◌≢◌, slice_index_or, length}
 use Rattle.cells.specs.Cells.{Cells, Shaped, Cell}
 use Rattle.cells.specs.Sets.{Cellset}
