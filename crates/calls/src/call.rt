@@ -1,7 +1,8 @@
-// The calls on a store, and those among them that every cell array can serve.
-// A list of them is what a store promises about.
+//! The calls on a store, and those among them that every cell array can serve.
+//! A list of them is what a store promises about.
 use crate::fault::StoreFault;
 
+/// A call on a store, with the number of its record.
 #[derive(Clone, Copy)]
 pub enum Call {
     Get { record: usize },
@@ -9,9 +10,9 @@ pub enum Call {
     Renew { record: usize, value: u32 },
 }
 
-// A call that needs no erase, so that it can be made over any cell array. No row of the table of refusals says how a
-// renewal is refused over another, so such a list has a type of its own. `Call` has these cases itself, and holds no
-// `Access`, so that a get, a put and a renewal are written alike.
+/// A call that needs no erase, so that it can be made over any cell array. No row of the table of refusals says how a
+/// renewal is refused over another, so such a list has a type of its own. `Call` has these cases itself, and holds no
+/// `Access`, so that a get, a put and a renewal are written alike.
 #[derive(Clone, Copy)]
 pub enum Access {
     Get { record: usize },

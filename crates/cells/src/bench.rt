@@ -1,5 +1,5 @@
-// The bench part: two pages of 64 cells in memory of its own, one byte a cell, for trials without a device.
-// Its limit of three erases is soon reached.
+//! The bench part: two pages of 64 cells in memory of its own, one byte a cell, for trials without a device.
+//! Its limit of three erases is soon reached.
 ghost use Rattle.std.specs.Prelude.{◌≡◌, false, [], replicate};
 ghost use Rattle.std.proofs.Common.{lit≤};
 ghost use Rattle.cells.specs.Cells.{Fresh};
@@ -33,14 +33,14 @@ impl Page {
     }
 }
 
-// The rules give the part memory of its own, of a fixed size.
+/// The bench part. The rules give it memory of its own, of a fixed size.
 #[derive(Drop)]
 pub struct Bench {
     pages: [Page; PAGES],
 }
 
 impl Bench {
-    // All cells unset, no page worn.
+    /// All cells unset, no page worn.
     pub fn new() -> Bench
         ensures { Fresh (bench_cells result.pages) }
     {

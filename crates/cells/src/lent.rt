@@ -1,5 +1,5 @@
-// An array that is lent: a `&mut` to any array is an array with the same meaning.
-// So a store can stand on an array that its owner has again afterwards.
+//! An array that is lent: a `&mut` to any array is an array with the same meaning.
+//! So a store can stand on an array that its owner has again afterwards.
 ghost use Rattle.std.specs.Prelude.{◌∷◌};
 
 use crate::array::{CellArray, Erasable};
@@ -7,15 +7,15 @@ use crate::fault::DeviceFault;
 
 // Each method hands its own question on.
 impl<A: CellArray> CellArray for &mut A {
-    ghost cells = { λ a. A.CellArray.cells a.now };
+    ghost cells = { λ a. A.cells a.now };
 
-    ghost held = { λ a. a.ghost_name ∷ A.CellArray.held a.now };
+    ghost held = { λ a. a.ghost_name ∷ A.held a.now };
 
-    ghost intact = { λ a. A.CellArray.intact a.now };
+    ghost intact = { λ a. A.intact a.now };
 
-    ghost steps = { λ a s after. A.CellArray.steps a.now s after.now };
+    ghost steps = { λ a s after. A.steps a.now s after.now };
 
-    ghost bounded = { λ a. A.CellArray.bounded a.now };
+    ghost bounded = { λ a. A.bounded a.now };
 
     fn pages(&self) -> usize {
         (**self).pages()

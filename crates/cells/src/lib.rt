@@ -1,5 +1,5 @@
-// Pages of cells that can only be set, and that an erase takes back a page at a time: the interfaces, and the parts
-// that need no image.
+//! Pages of cells that can only be set, and that an erase takes back a page at a time: the interfaces, and the parts
+//! that need no image.
 #![tactic(auto)]
 
 pub mod array;

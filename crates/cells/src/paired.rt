@@ -1,5 +1,5 @@
-// The paired part: each of its cells stands on two cells of any array below, and is set when either of them is.
-// It can be erased where the array below can.
+//! The paired part: each of its cells stands on two cells of any array below, and is set when either of them is.
+//! It can be erased where the array below can.
 ghost use Rattle.std.specs.Prelude.{◌≡◌, ◌*◌};
 ghost use Rattle.cells.specs.Device.{Kept, Marks, Erases};
 ghost use Rattle.cells.specs.Steps.{mark_step, erase_step, steps_below};
@@ -9,19 +9,21 @@ ghost use Rattle.cells.specs.Paired.{paired_cells, paired_bounded, MarksBoth};
 use crate::array::{CellArray, Erasable};
 use crate::fault::DeviceFault;
 
+/// An array of half the width over any array; an odd cell at the end of a page below belongs to no cell here.
 #[derive(Drop)]
 pub struct Paired<A> {
     array: A,
 }
 
 impl<A> Paired<A> {
+    /// Over this array, with its cells as they are.
     pub fn new(array: A) -> Paired<A>
         ensures { result.array ≡ array }
     {
         Paired { array }
     }
 
-    // The array below.
+    /// The array below.
     pub fn into_inner(self) -> A
         ensures { result ≡ self.array }
     {
@@ -31,11 +33,11 @@ impl<A> Paired<A> {
 }
 
 impl<A: CellArray> CellArray for Paired<A> {
-    ghost cells = { λ p. paired_cells (A.CellArray.cells p.array) };
+    ghost cells = { λ p. paired_cells (A.cells p.array) };
 
-    ghost held = { λ p. A.CellArray.held p.array };
+    ghost held = { λ p. A.held p.array };
 
-    ghost intact = { λ p. A.CellArray.intact p.array };
+    ghost intact = { λ p. A.intact p.array };
 
     // the steps that the array below takes
     ghost steps = { λ p s after. Takes A.CellArray (steps_below s) p.array after.array };
