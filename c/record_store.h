@@ -6,8 +6,8 @@
  *   - the value (get) or the number of cells that it set (put, renew), which is at most 1,024; or
  *   - RECORD_STORE_REFUSED plus the number of the refusal, and then every byte of the image is as it was.
  * Any numbers and any bytes may be given. Nothing is remembered between calls but the image, and nothing is allocated.
- * Calls on one image, one after the other with the same kind, parameter and cells to a record, keep together what
- * docs/DATASHEET.md says of a list of calls.
+ * Where the image is good and a store can be made, calls on it, one after the other with the same kind, parameter and
+ * cells to a record, keep together what docs/DATASHEET.md says of changes per erase and of full and worn-out pages.
  *
  * The image must be `length` bytes of memory that may be read and written, and that nothing else reads or writes during
  * the call. With a length of 0 the pointer must still not be null. Calls on different images may run at the same time.

@@ -23,7 +23,8 @@ pub record PromiseOn {A : Type 0} (array : Ghosts A) (c : Code) (before : A) (co
       Promise c (state_of (array.cells before) counted) calls answers (state_of (array.cells after) counts)
   -- the array took the steps of that very history, and no others
   pub takes : Takes array (all_steps c promise.history) before after
-  -- of which as many are marks as the calls answer, and so as the ledger counts
+  -- The marks among them are as many as its accepted puts and renewals answer, and so many the ledger has counted, up to
+  -- its ceiling.
   pub marks_answered :
       count_by is_mark (all_steps c promise.history) ≡ total (λ e. marks e.call e.answer) promise.history
   pub marked : counts.marked ≡ raised (count_by is_mark (all_steps c promise.history)) counted.marked

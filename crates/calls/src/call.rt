@@ -1,5 +1,5 @@
-//! The calls on a store, and those among them that every cell array can serve.
-//! A list of them is what a store promises about.
+//! The calls on a store, those among them that every cell array can serve, and the entries of a list of them.
+//! A list of calls is what a store promises about.
 use crate::fault::StoreFault;
 
 /// A call on a store, with the number of its record.

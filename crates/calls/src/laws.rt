@@ -9,38 +9,38 @@ ghost use Rattle.calls.specs.Sample.{IntegersLawful, SampleObeys, PageLifeObeys}
 use cells::array::CellArray;
 use cells::paired::Paired;
 
-// Whatever obeys the rules of one call at each call keeps the whole promise over the list: changes per erase and what a
-// data sheet may say besides, a set cell lasts until its page is renewed, a get answers the value last accepted, wear,
-// ledger, full and fewest.
+/// Whatever obeys the rules of one call at each call keeps the whole promise over the list: changes per erase and what a
+/// data sheet may say besides, a set cell lasts until its page is renewed, a get answers the value last accepted, wear,
+/// ledger, full and fewest.
 pub fn rules_suffice()
     ensures { RulesSuffice }
 {}
 
-// Calls made singly, each on a store made for it, keep it together: so do those of callers in C on an image.
+/// Calls made singly, each on a store made for it, keep it together: so do those of callers in C on an image.
 pub fn single_calls_suffice()
     ensures { SingleCallsSuffice }
 {}
 
-/// Over a paired part on any array, a list of calls leaves each cell below known: no half of a pair is set but by a mark
-/// of the history, and each is unset by its erases.
+/// Over a paired part on any array, a list of calls leaves each cell below known: a half of a pair becomes set only by a
+/// mark of the history, and unset only by an erase of its page.
 pub fn paired_cells_known<A: CellArray>()
     ensures { PairedCellsKnown A.CellArray ⟦<Paired<A> as CellArray>⟧ }
 {}
 
-// The rules can be obeyed: there are lawful groups of every order from 2 to 64, a history with every kind of call and
-// refusal, and the life of a page with the figure 1, up to a renewal that is refused as worn out.
+/// The rules can be obeyed: there are lawful groups of every order from 2 to 64, a history with every kind of call and
+/// refusal, and the life of a page with the figure 1, up to a renewal that is refused as worn out.
 pub fn rules_can_be_met()
     ensures lawful { IntegersLawful }
     ensures sample { SampleObeys }
     ensures life { PageLifeObeys }
 {}
 
-// A making is accepted exactly where none of its rows holds.
+/// A making is accepted exactly where none of its rows holds.
 pub fn makings_agree()
     ensures { MakesExactly }
 {}
 
-// The examples worked by hand hold of the definitions.
+/// The examples worked by hand hold of the definitions.
 pub fn examples_hold()
     ensures { Worked }
 {}

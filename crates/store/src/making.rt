@@ -1,4 +1,4 @@
-//! The check of a making: whether a code and an array make a store that has records.
+//! The check of a making: whether a store can be made of a code and an array.
 //! The first row that holds is answered, by its own fault.
 ghost use Rattle.std.specs.Prelude.{◌≡◌};
 ghost use Rattle.coset.specs.Codes.{code_of};
@@ -33,7 +33,7 @@ impl MakingFault {
     }
 }
 
-/// Whether a store of these has records, or why it has none: 30, 31 or 32, in this order.
+/// Whether a store can be made of these, or why not: 30, 31 or 32, in this order.
 pub fn check_making<G: Group, A: CellArray>(code: &Code<G>, array: &A) -> Result<(), MakingFault>
     ensures { Makes (code_of G.Group code.now) (A.cells array.now) result }
 {
