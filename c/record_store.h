@@ -7,7 +7,8 @@
  *   - RECORD_STORE_REFUSED plus the number of the refusal, and then every byte of the image is as it was.
  * Any numbers and any bytes may be given. Nothing is remembered between calls but the image, and nothing is allocated.
  * Where the image is good and a store can be made, calls on it, one after the other with the same kind, parameter and
- * cells to a record, keep together what docs/DATASHEET.md says of changes per erase and of full and worn-out pages.
+ * cells to a record, and with nothing else writing to the image between them, keep together what docs/DATASHEET.md says
+ * of changes per erase and of full and worn-out pages.
  *
  * The image must be `length` bytes of memory that may be read and written, and that nothing else reads or writes during
  * the call. With a length of 0 the pointer must still not be null. Calls on different images may run at the same time.
