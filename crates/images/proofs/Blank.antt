@@ -56,34 +56,6 @@ module _ (P c : ℕ) where
       } in
       record { bytes = e; accepted = rw e (written_served Flash (blank P c) ok); means = rw e (read_back Flash (blank P c) ok) }
 
--- a list made longer by one number, as `resize` leaves it
-pub resized :
-    {T E : Type 0} {was now xs : List ℕ} {r : Result T E} {x : T} (n len y : ℕ) → was ≡ xs → len ≡ length xs → length xs ≤ n → r ≡ Ok x →
-    now ≡ cond (is_ok r) (take n was ++ replicate (n - len) y) was → now ≡ xs ++ replicate (n - length xs) y
-resized {xs = xs} n len y a b c d e = e ∙ rw (d, a, b) (ap (λ l. l ++ replicate (n - length xs) y) (take_all n xs c))
-
 -- a width as its two bytes
 pub two_bytes : (c : ℕ) (ws : List ℕ) → c ≤ 1024 → ws ≡ (c / 256 % 256) ∷ ((c % 256) ∷ []) → ws ≡ (c / 256) ∷ ((c % 256) ∷ [])
 two_bytes c ws h e = let high : c / 256 % 256 ≡ c / 256 = omega arith in e ∙ ap (λ b. b ∷ ((c % 256) ∷ [])) high
-
--- the bytes as they are put together, one piece after the other
-module _ (P c n : ℕ) (xs ws ys : List ℕ) (whole : n ≡ size Flash P c) (counts : xs ≡ (P ∷ []) ++ replicate (1 + 4 * P - 1) 0)
-    (width : ws ≡ (c / 256) ∷ ((c % 256) ∷ [])) (front : ys ≡ xs ++ ws) where
-  pub front_length : length ys ≡ 3 + 4 * P
-  front_length =
-      let zeros : length (replicate {A = ℕ} (1 + 4 * P - 1) 0) ≡ 1 + 4 * P - 1 = length-replicate (1 + 4 * P - 1) 0 in
-      let both = ap length front ∙ length-append xs ws in
-      let left = ap length counts in
-      let right = ap length width in
-      omega arith
-
-  pub laid : (zs : List ℕ) → zs ≡ ys ++ replicate (n - length ys) 255 → zs ≡ written Flash (blank P c)
-  laid zs pages =
-      let head = P ∷ replicate (4 * P) 0 in
-      let four : 1 + 4 * P - 1 ≡ 4 * P = omega arith in
-      let start : xs ≡ P ∷ replicate (4 * P) 0 = counts ∙ ap (λ k. P ∷ replicate k 0) four in
-      let long = front_length in
-      let rest : n - length ys ≡ P * page_bytes c = omega arith in
-      pages ∙ ap₂ (λ l k. l ++ replicate k 255) (front ∙ ap₂ (λ a b. a ++ b) start width) rest
-      ∙ append_assoc head ((c / 256) ∷ ((c % 256) ∷ [])) (replicate (P * page_bytes c) 255)
-      ∙ sym (blank_bytes P c)

@@ -12,3 +12,4 @@ pub mod ReadBack
 pub mod Accepted
 pub mod Intact
 pub mod Blank
+pub mod Laying

@@ -1,12 +1,11 @@
 -- A fresh flash image: no cell is set, and no page was ever erased. Assumes nothing.
-use Rattle.std.specs.Prelude.{◌≡◌, ℕ, false, List, ◌++◌, Ok, Err, Result}
-use Rattle.images.specs.declared.fault.ImageError.{ImageError}
-use Rattle.images.specs.declared.fault.ImageError.TheVariants.{Image, NoMemory}
+use Rattle.std.specs.Prelude.{◌≡◌, ℕ, false, List, ◌++◌, take, drop, Ok, Err, Result}
+use Rattle.images.specs.declared.fault.ImageFault.{ImageFault}
 use Rattle.images.specs.declared.format.Format.TheVariants.{Flash}
 use Rattle.cells.specs.Cells.{Cells, Alike}
 use Rattle.cells.specs.Rows.{Row, Refused, Served}
 use Rattle.images.specs.Faults.{image_number}
-use Rattle.images.specs.Image.{limit_of, decoded}
+use Rattle.images.specs.Image.{limit_of, size, decoded}
 use Rattle.images.specs.Check.{page_bound_rows, width_bound_rows, image_rows}
 use Rattle.images.specs.Written.{written}
 
@@ -24,8 +23,15 @@ pub record FreshImage (P c : ℕ) (xs : List ℕ) : Type 0 where
   pub accepted : Served (image_rows Flash xs)
   pub means : Alike (blank P c) (decoded Flash xs)
 
--- what the call that makes one answers; `bytes` are those of its answer
-abbrev pub Makes : {A : Type 0} → (A → List ℕ) → ℕ → ℕ → Result A ImageError → Type 0
-Makes bytes P c (Ok v) = Served (fresh_rows P c) × FreshImage P c (bytes v)
-Makes bytes P c (Err (Image e)) = Refused (fresh_rows P c) (image_number e)
-Makes bytes P c (Err NoMemory) = Served (fresh_rows P c)
+-- The first n of some bytes have become the image of P pages of c cells with none set and no wear; the bytes after it
+-- are as they were.
+pub record WritesBlank (P c : ℕ) (before after : List ℕ) (n : ℕ) : Type 0 where
+  pub size : n ≡ size Flash P c
+  pub image : take n after ≡ written Flash (blank P c)
+  pub others : drop n after ≡ drop n before
+
+-- what the call that writes a fresh image into some bytes answers: how many of them it has
+abbrev pub WritesFresh : ℕ → ℕ → List ℕ → List ℕ → Result ℕ ImageFault → Type 0
+WritesFresh P c before after (Ok n) =
+    Served (fresh_rows P c) × FreshImage P c (take n after) × WritesBlank P c before after n
+WritesFresh P c before after (Err e) = Refused (fresh_rows P c) (image_number e) × (after ≡ before)

@@ -1,10 +1,7 @@
-// Faults of images: why one was refused, or could not be made.
+// Faults of images: why one was refused.
 // Each refusal stands for one number of the table of refusals.
 ghost use Rattle.std.specs.Prelude.{◌≡◌};
-ghost use Rattle.images.specs.declared.fault.ImageError.TheVariants.{Image, NoMemory};
 ghost use Rattle.images.specs.Faults.{image_number};
-
-use std::alloc::AllocError;
 
 // A refused image.
 #[derive(Clone, Copy, PartialEq, Debug)]
@@ -36,28 +33,5 @@ impl ImageFault {
             ImageFault::Stray => 14,
             ImageFault::Wear => 15,
         }
-    }
-}
-
-// Why there is no fresh image, or no listing of one.
-#[derive(Clone, Copy, PartialEq, Debug)]
-pub enum ImageError {
-    Image(ImageFault),
-    NoMemory,
-}
-
-impl From<ImageFault> for ImageError {
-    ghost from_gives = { λ e r. r ≡ Image e };
-
-    fn from(fault: ImageFault) -> ImageError {
-        ImageError::Image(fault)
-    }
-}
-
-impl From<AllocError> for ImageError {
-    ghost from_gives = { λ _ r. r ≡ NoMemory };
-
-    fn from(_: AllocError) -> ImageError {
-        ImageError::NoMemory
     }
 }

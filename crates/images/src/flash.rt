@@ -1,6 +1,6 @@
 // The flash part: pages of cells in a flash image that is lent to it.
 // A set cell is a 0 bit. An erase writes the page's own bytes and its wear count, whose limit is 10,000.
-ghost use Rattle.std.specs.Prelude.{◌≡◌, ◌+◌, ◌*◌, ◌<◌, [], ◌∷◌, length, replicate};
+ghost use Rattle.std.specs.Prelude.{◌≡◌, ◌+◌, ◌*◌, ◌<◌, [], ◌∷◌, length};
 ghost use Rattle.images.specs.declared.format.Format.TheVariants.{Flash as FlashFormat};
 ghost use Rattle.cells.specs.Device.{Erases, Kept};
 ghost use Rattle.cells.specs.Steps.{erase_step};
@@ -9,6 +9,7 @@ ghost use Rattle.images.specs.Image.{count_of, part_cells};
 ghost use Rattle.images.specs.Check.{Accepted};
 ghost use Rattle.images.specs.Bytes.{StepsBytes};
 
+use crate::fill::fill;
 use crate::format::Format;
 use crate::part::{Kind, Part};
 use cells::array::{CellArray, Erasable};
@@ -16,6 +17,9 @@ use cells::fault::DeviceFault;
 
 // How often a page may be erased.
 pub const LIMIT: u32 = 10_000;
+
+// The bytes of the largest flash image, of 64 pages of 1,024 cells.
+pub const MAX_IMAGE: usize = 8_451;
 
 #[derive(Clone, Copy)]
 pub struct Flash;
@@ -48,7 +52,7 @@ impl Erasable for Part<'_, Flash> {
         let worn = (*self).check_erase(page)?;
         let at = self.layout.page_at(Format::Flash, page);
         let end = at + self.layout.page_bytes();
-        fill(&mut self.image[at..end]);
+        fill(&mut self.image[at..end], 0xff);
         self.image[1 + 4 * page..5 + 4 * page].copy_from_slice(&(worn + 1).to_be_bytes());
         Ok(())
     }
@@ -61,12 +65,4 @@ pub(crate) fn count(image: &[u8], page: usize) -> u32
 {
     let at = 1 + 4 * page;
     u32::from_be_bytes([image[at], image[at + 1], image[at + 2], image[at + 3]])
-}
-
-// Every bit a one: no cell of the page is set, and no unused bit reads as set. By itself, so that what the library says
-// of `fill` need not be said of a part of an image.
-fn fill(page: &mut [u8])
-    ensures { page.new ≡ replicate (length page.old) 255 }
-{
-    page.fill(0xff);
 }

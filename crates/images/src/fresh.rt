@@ -1,33 +1,38 @@
-// Fresh flash images: every cell unset, no page ever erased.
-// The bytes are made in one go: the counts as the format has them, and then pages of ones.
-ghost use Rattle.std.specs.Prelude.{◌≡◌, ◌<◌, IfOk, vec_items};
-ghost use Rattle.images.specs.declared.format.Format.TheVariants.{Flash};
-ghost use Rattle.images.specs.Fresh.{blank, Makes};
-ghost use Rattle.images.specs.Written.{written};
+//! Fresh flash images: every cell unset, no page ever erased.
+//! One is written into bytes that the caller lends, which have room for the largest, so that no memory is needed.
+ghost use Rattle.images.specs.Fresh.{WritesBlank, WritesFresh};
 
-use crate::fault::ImageError;
+use crate::fault::ImageFault;
+use crate::fill::fill;
+use crate::flash::MAX_IMAGE;
 use crate::format::Format;
 use crate::layout::Layout;
-use std::alloc::{AllocError, Global};
 
-// A fresh flash image of these counts, which are refused as they would be in an image.
-pub fn fresh_flash(heap: Global, pages: usize, width: usize) -> Result<Vec<u8>, ImageError>
-    ensures { Makes vec_items pages width result }
+/// Writes a fresh flash image of these counts into the first of the bytes, and answers how many bytes it has. The bytes
+/// after it are left as they are. The counts are refused as they would be in an image, by 11 and then by 12, and then no
+/// byte is altered.
+pub fn write_fresh(
+    image: &mut [u8; MAX_IMAGE],
+    pages: usize,
+    width: usize,
+) -> Result<usize, ImageFault>
+    ensures { WritesFresh pages width image.old image.new result }
 {
-    Layout::check_pages(pages)?;
-    Layout::check_width(width)?;
-    Ok(unset_image(heap, Layout { pages, width })?)
+    let layout = Layout::of(pages, width)?;
+    Ok(write_blank(image, layout))
 }
 
+/// The same of a layout, which is not refused. One of no pages, or of no cells, gives bytes that are no good image.
 // Both casts are proved to lose nothing; a `try_from` would add a refusal that never comes.
-fn unset_image(heap: Global, layout: Layout) -> Result<Vec<u8>, AllocError>
-    ensures { IfOk result (λ v. v.items ≡ written Flash (blank layout.pages layout.width)) }
+pub fn write_blank(image: &mut [u8; MAX_IMAGE], layout: Layout) -> usize
+    ensures { WritesBlank layout.pages layout.width image.old image.new result }
 {
     let size = layout.size(Format::Flash);
-    let mut image = Vec::with_capacity(heap, size)?;
-    image.push(layout.pages as u8)?;
-    image.resize(1 + 4 * layout.pages, 0)?;
-    image.extend_from_slice(&(layout.width as u16).to_be_bytes())?;
-    image.resize(size, 0xff)?;
-    Ok(image)
+    let width_at = 1 + 4 * layout.pages;
+    let pages_at = width_at + 2;
+    image[0] = layout.pages as u8;
+    fill(&mut image[1..width_at], 0);
+    image[width_at..pages_at].copy_from_slice(&(layout.width as u16).to_be_bytes());
+    fill(&mut image[pages_at..size], 0xff);
+    size
 }

@@ -18,11 +18,23 @@ pub struct Layout {
 }
 
 impl Layout {
-    ghost use Rattle.std.specs.Prelude.{◌<◌};
+    ghost use Rattle.std.specs.Prelude.{◌≡◌, ◌<◌};
     ghost use Rattle.images.specs.Check.{page_bound_rows, width_bound_rows, ChecksStep};
+    ghost use Rattle.images.specs.Fresh.{fresh_rows};
 
     // no pages and no width
     pub(crate) const NONE: Layout = Layout { pages: 0, width: 0 };
+
+    /// The layout of an image of so many pages of so many cells. Refused by 11 for a count of pages that no image can
+    /// have, and then by 12 for a width that none can have.
+    pub fn of(pages: usize, width: usize) -> Result<Layout, ImageFault>
+        ensures { ChecksStep (fresh_rows pages width)
+            (λ l. (l.pages ≡ pages) × (l.width ≡ width)) result }
+    {
+        Layout::check_pages(pages)?;
+        Layout::check_width(width)?;
+        Ok(Layout { pages, width })
+    }
 
     // Whether an image can have so many pages. The two counts have a check each, since an image has other rows between;
     // one function for both would be handed the bound and the fault of each.

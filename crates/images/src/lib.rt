@@ -4,6 +4,7 @@
 
 mod check;
 pub mod fault;
+mod fill;
 pub mod flash;
 pub mod format;
 pub mod fresh;

@@ -29,9 +29,9 @@ returns c =
     let at = c.page_at-at.result in
     let n = at + c.page_bytes.result - at in
     let k = 5 + 4 * c.args.page - (1 + 4 * c.args.page) in
-    let ys = put_mid (1 + 4 * c.args.page) k (put_mid at n xs c.fill.new.page) c.copy_from_slice.new.self in
+    let ys = put_mid (1 + 4 * c.args.page) k (put_mid at n xs c.fill.new.part) c.copy_from_slice.new.self in
     let bytes : PageErased l.pages l.width c.args.page xs ys =
-    page_written l.pages l.width c.args.page at n k (c.in_ok-worn.worn + 1) xs c.fill.new.page c.copy_from_slice.new.self
+    page_written l.pages l.width c.args.page at n k (c.in_ok-worn.worn + 1) xs c.fill.new.part c.copy_from_slice.new.self
     there.1 room c.page_at-at.ensures (omega arith)
     (c.fill.ensures ∙ ap (λ m. replicate m 255) (length-between xs _ _ (omega arith))) (omega arith) (omega arith)
     (c.copy_from_slice.ensures.after ∙ c.to_be_bytes.ensures) (omega arith) in
