@@ -122,10 +122,9 @@ abbrev pub reply_of : Result Reply ScriptFault → Reply
 reply_of (Ok r) = r
 reply_of (Err f) = Refused f
 
--- All the lines were answered by a store with the code c in the state `first`. It printed its number of records, then
--- their replies.
-pub record Answered (c : Code) (first : State) (lines : List (List ℕ × ℕ)) (out : List Reply) : Type 0 where
-  pub last : State
+-- All the lines were answered by a store with the code c, from the state `first` to the state `last`. It replied with its
+-- number of records, and then to each line.
+pub record Answered (c : Code) (first : State) (lines : List (List ℕ × ℕ)) (out : List Reply) (last : State) : Type 0 where
   pub others : List Reply
-  pub prints : out ≡ Made (records c first.cells) ∷ others
+  pub replies : out ≡ Made (records c first.cells) ∷ others
   pub execution : Execution c (λ h. ExecutesLines lines first h others) first last

@@ -1,7 +1,5 @@
 -- The errors that end a script at its head, and their columns. Assumes nothing.
 use Rattle.std.specs.Prelude.{ℕ}
-use Rattle.images.specs.declared.fault.ImageError.{ImageError}
-use Rattle.images.specs.declared.fault.ImageError.TheVariants.{Image as ImageRefused, NoMemory as NoRoom}
 use Rattle.images.specs.declared.fault.ImageFault.{ImageFault}
 use Rattle.images.specs.declared.fault.ImageFault.TheVariants.{Short, Pages, Width, Trailing, Stray, Wear}
 use Rattle.store.specs.declared.making.MakingFault.{MakingFault}
@@ -10,8 +8,7 @@ use Rattle.commands.specs.declared.head.Head.{Head}
 use Rattle.commands.specs.declared.group_word.GroupWord.{GroupWord}
 use Rattle.commands.specs.declared.word.Number.{Number}
 use Rattle.script.specs.declared.fault.Cause.TheVariants.{Image, Making}
-use Rattle.script.specs.declared.fault.ScriptError.{ScriptError}
-use Rattle.script.specs.declared.fault.ScriptError.TheVariants.{Fault, NoMemory}
+use Rattle.script.specs.declared.fault.ScriptFault.{ScriptFault}
 
 -- the column of a refused count: that of its word, and 1 for the faults that no heading has
 abbrev pub image_column : Head GroupWord Number → ImageFault → ℕ
@@ -28,9 +25,9 @@ making_column h Unusable = 3
 making_column h Cells = h.n.column
 making_column h Narrow = h.n.column
 
-abbrev pub image_error : ℕ → Head GroupWord Number → ImageError → ScriptError
-image_error k h (ImageRefused f) = Fault (record { cause = Image f; line = k; column = image_column h f })
-image_error k h NoRoom = NoMemory
+-- the fault of a heading at line k for its counts, and for its making
+abbrev pub image_refused : ℕ → Head GroupWord Number → ImageFault → ScriptFault
+image_refused k h f = record { cause = Image f; line = k; column = image_column h f }
 
-abbrev pub making_error : ℕ → Head GroupWord Number → MakingFault → ScriptError
-making_error k h f = Fault (record { cause = Making f; line = k; column = making_column h f })
+abbrev pub making_refused : ℕ → Head GroupWord Number → MakingFault → ScriptFault
+making_refused k h f = record { cause = Making f; line = k; column = making_column h f }

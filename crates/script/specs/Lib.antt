@@ -4,3 +4,8 @@ pub mod Replies
 pub mod Execution
 pub mod HeadErrors
 pub mod Script
+pub mod Writing
+pub mod Printing
+pub mod Starting
+pub mod Printers
+pub mod Growing

@@ -1,10 +1,15 @@
--- What a whole script prints: the head makes a fresh flash part and a store, and the other lines make calls on it.
+-- What a whole script prints and leaves: the head makes a fresh flash part and a store, and the other lines make calls on
+-- it.
 -- Assumes nothing.
-use Rattle.std.specs.Prelude.{◌≡◌, ℕ, ◌<◌, ◌≤◌, ◌⊎◌, List, [], ◌∷◌, length, Ok, Err, Result}
+use Rattle.std.specs.Prelude.{◌≡◌, ℕ, ◌<◌, ◌≤◌, ◌⊎◌, List, [], ◌∷◌, length, take, drop, Option, None, Some}
 use Rattle.group.specs.Group.{unusable}
-use Rattle.cells.specs.Cells.{Alike}
+use Rattle.cells.specs.Cells.{Cells, Alike}
 use Rattle.cells.specs.Rows.{Served}
-use Rattle.images.specs.Fresh.{blank as fresh_cells, fresh_rows}
+use Rattle.images.specs.declared.format.Format.TheVariants.{Flash}
+use Rattle.images.specs.Image.{size}
+use Rattle.images.specs.Check.{image_rows}
+use Rattle.images.specs.Written.{written}
+use Rattle.images.specs.Fresh.{blank as fresh_cells}
 use Rattle.coset.specs.Code.{Code, code}
 use Rattle.calls.specs.declared.call.Call.{Call}
 use Rattle.calls.specs.Records.{records}
@@ -24,9 +29,7 @@ use Rattle.commands.specs.Orders.{head_rows, IsHeading}
 use Rattle.script.specs.declared.fault.Cause.{Cause}
 use Rattle.script.specs.declared.fault.Cause.TheVariants.{Line}
 use Rattle.script.specs.declared.reply.Reply.{Reply}
-use Rattle.script.specs.declared.fault.ScriptError.{ScriptError}
-use Rattle.script.specs.declared.fault.ScriptError.TheVariants.{Fault, NoMemory}
-use Rattle.script.specs.declared.reply.Reply.TheVariants.{Made, Refused}
+use Rattle.script.specs.declared.reply.Reply.TheVariants.{Made}
 use Rattle.script.specs.Faults.{cause_number}
 use Rattle.script.specs.Lines.{numbered}
 use Rattle.script.specs.Execution.{refusal, ExecutesLines}
@@ -44,9 +47,33 @@ heading_rows h =
     (placed_row 31 h.n.column ((h.n.value ≡ 0) ⊎ (63 < h.n.value)) ∷
     (placed_row 32 h.n.column (h.width.value < h.n.value) ∷ []))))
 
+-- The bytes that are lent to a script for its image, before and afterwards, and how many of them are then the image that
+-- it left, if it left one.
+pub record Lent : Type 0 where
+  pub before : List ℕ
+  pub after : List ℕ
+  pub left : Option ℕ
+
+abbrev pub lent : List ℕ → List ℕ → Option ℕ → Lent
+lent xs ys n = record { before = xs; after = ys; left = n }
+
+-- No image is left: all the bytes are as they were.
+pub record NoImage (l : Lent) : Type 0 where
+  pub none : l.left ≡ None
+  pub bytes : l.after ≡ l.before
+
+-- The first n bytes are the image of these cells, which the check accepts; the bytes after it are as they were.
+pub record LeavesImage (n : ℕ) (m : Cells) (l : Lent) : Type 0 where
+  pub size : l.left ≡ Some n
+  pub image : take n l.after ≡ written Flash m
+  pub long : length (written Flash m) ≡ n
+  pub good : Served (image_rows Flash (written Flash m))
+  pub others : drop n l.after ≡ drop n l.before
+
 -- The heading is accepted: a store over a fresh part is made, and the lines after it make calls that keep the whole
--- promise of a store. Printed is the number of records, and then the replies to the lines that make these calls.
-pub record MadeStore (h : Head GroupWord Number) (lines : List (List ℕ × ℕ)) (out : List Reply) : Type 0 where
+-- promise of a store. Printed is the number of records, and then the replies to the lines that make these calls. The
+-- image that is left has the cells that the last of these very calls left.
+pub record MadeStore (h : Head GroupWord Number) (lines : List (List ℕ × ℕ)) (out : List Reply) (l : Lent) : Type 0 where
   pub accepted : NotRefused (heading_rows h)
   pub first : State
   pub last : State
@@ -58,12 +85,13 @@ pub record MadeStore (h : Head GroupWord Number) (lines : List (List ℕ × ℕ)
   pub others : List Reply
   pub prints : out ≡ Made (records (code_of_heading h) first.cells) ∷ others
   pub executes : ExecutesLines lines first promise.history others
+  pub leaves : LeavesImage (size Flash h.pages.value h.width.value) last.cells l
 
 -- a head that is not well written, at line k
-pub record HeadMalformed (k : ℕ) (l : List ℕ) (out : List Reply) : Type 0 where
+pub record HeadMalformed (k : ℕ) (head : List ℕ) (out : List Reply) : Type 0 where
   pub fault : LineFault
   pub column : ℕ
-  pub refused : RefusedAt (head_rows l) (line_number fault) column
+  pub refused : RefusedAt (head_rows head) (line_number fault) column
   pub prints : out ≡ refusal (Line fault) k column ∷ []
 
 -- a heading that is refused
@@ -74,47 +102,22 @@ pub record HeadRefused (k : ℕ) (h : Head GroupWord Number) (out : List Reply) 
   pub prints : out ≡ refusal cause k column ∷ []
 
 -- a head that is well written, and the lines after it
-pub record HeadWellFormed (k : ℕ) (l : List ℕ) (lines : List (List ℕ × ℕ)) (out : List Reply) : Type 0 where
+pub record HeadWellFormed (k : ℕ) (head : List ℕ) (lines : List (List ℕ × ℕ)) (out : List Reply) (l : Lent) : Type 0 where
   pub heading : Head GroupWord Number
-  pub accepted : NotRefused (head_rows l)
-  pub is : IsHeading l heading
-  pub outcome : HeadRefused k heading out ⊎ MadeStore heading lines out
+  pub accepted : NotRefused (head_rows head)
+  pub is : IsHeading head heading
+  pub outcome : (HeadRefused k heading out × NoImage l) ⊎ MadeStore heading lines out l
 
--- The first line that is not empty is the head. Where it is refused or missing, one refusal is all that is printed.
-abbrev pub Starts : List (List ℕ × ℕ) → List Reply → Type 0
-Starts [] out = out ≡ refusal (Line Command) 1 1 ∷ []
-Starts (l ∷ ls) out = HeadMalformed l.1 l.0 out ⊎ HeadWellFormed l.1 l.0 ls out
+-- The first line that is not empty is the head. Where it is refused or missing, one refusal is all that is printed, and
+-- no image is left.
+abbrev pub Starts : List (List ℕ × ℕ) → List Reply → Lent → Type 0
+Starts [] out l = (out ≡ refusal (Line Command) 1 1 ∷ []) × NoImage l
+Starts (head ∷ ls) out l =
+    (HeadMalformed head.1 head.0 out × NoImage l) ⊎ HeadWellFormed head.1 head.0 ls out l
 
--- What a script prints. One of more than 65,535 bytes is refused whole; the lines of any other are parted by byte 10.
-abbrev pub Prints : List ℕ → List Reply → Type 0
-Prints script out =
-    ((65535 < length script) × (out ≡ refusal (Line Size) 1 1 ∷ []))
-    ⊎ ((length script ≤ 65535) × Starts (numbered 1 (cut 10 script)) out)
-
--- the counts of pages and of cells of a heading are accepted
-abbrev pub CountsAccepted : Head GroupWord Number → Type 0
-CountsAccepted h = Served (fresh_rows h.pages.value h.width.value)
-
--- why a heading makes no store: the refusal that is printed, or that there is no memory for its part or the replies
-abbrev pub HeadingFails : ℕ → Head GroupWord Number → ScriptError → Type 0
-HeadingFails k h (Fault f) = RefusedAt (heading_rows h) (cause_number f.cause) f.column × (f.line ≡ k)
-HeadingFails k h NoMemory = CountsAccepted h
-
--- what a heading and the lines after it come to; `items` are the replies of an answer
-abbrev pub OpensStore : {A : Type 0} → (A → List Reply) → ℕ → Head GroupWord Number → List (List ℕ × ℕ) → Result A ScriptError → Type 0
-OpensStore items k h lines (Ok v) = MadeStore h lines (items v)
-OpensStore items k h lines (Err e) = HeadingFails k h e
-
--- the first of the lines is a head that is well written, and its counts are accepted: a fresh part is allocated
-abbrev pub HeadAllocates : List (List ℕ × ℕ) → Type 0
-HeadAllocates [] = ⊥
-HeadAllocates (l ∷ ls) = (h : Head GroupWord Number) × NotRefused (head_rows l.0) × IsHeading l.0 h × CountsAccepted h
-
--- The same of a whole script: its one refusal is what it prints, and only where its head allocates can memory be short.
-abbrev pub ScriptFails : List ℕ → ScriptError → Type 0
-ScriptFails script (Fault f) = Prints script (Refused f ∷ [])
-ScriptFails script NoMemory = (length script ≤ 65535) × HeadAllocates (numbered 1 (cut 10 script))
-
-abbrev pub Answers : {A : Type 0} → (A → List Reply) → List ℕ → Result A ScriptError → Type 0
-Answers items script (Ok v) = Prints script (items v)
-Answers items script (Err e) = ScriptFails script e
+-- What a script prints, and what it leaves. One of more than 65,535 bytes is refused whole; the lines of any other are
+-- parted by byte 10.
+abbrev pub Runs : List ℕ → List Reply → Lent → Type 0
+Runs script out l =
+    ((65535 < length script) × (out ≡ refusal (Line Size) 1 1 ∷ []) × NoImage l)
+    ⊎ ((length script ≤ 65535) × Starts (numbered 1 (cut 10 script)) out l)

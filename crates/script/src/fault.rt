@@ -1,20 +1,18 @@
 // Faults of a script: what a line, a making or a call was refused for, whole, with the line and the column.
 // Each cause has the number and the place letter of the table of refusals.
-ghost use Rattle.std.specs.Prelude.{◌≡◌, Some};
+ghost use Rattle.std.specs.Prelude.{◌≡◌};
 ghost use Rattle.script.specs.declared.fault.Cause.TheVariants.{Line, Image, Making, Store};
 ghost use Rattle.script.specs.Faults.{cause_number, cause_letter};
 ghost use Rattle.script.specs.Replies.{fault_shown};
-ghost use Rattle.script.specs.declared.fault.ScriptError.TheVariants.{Fault, NoMemory};
 ghost use Rattle.script.specs.Execution.{fault_of_call, place_of, place_of_get};
-ghost use Rattle.script.specs.HeadErrors.{image_error, making_error};
+ghost use Rattle.script.specs.HeadErrors.{image_refused, making_refused};
 
+use crate::output::{Output, number};
 use calls::fault::StoreFault;
 use commands::fault::{LineFault, Refusal};
 use commands::head::Heading;
 use commands::word::Number;
-use images::fault::{ImageError, ImageFault};
-use std::alloc::AllocError;
-use std::fmt;
+use images::fault::ImageFault;
 use store::making::MakingFault;
 
 #[derive(Clone, Copy, PartialEq, Debug)]
@@ -59,14 +57,29 @@ pub struct ScriptFault {
     pub column: usize,
 }
 
-// Its number, the letter of its place, its line and its column.
-impl fmt::Display for ScriptFault {
-    ghost output = { λ f. Some (fault_shown f) };
+impl ScriptFault {
+    // Prints its number, the letter of its place, its line and its column.
+    pub(crate) fn print<O: Output>(&self, out: &mut O)
+        ensures { O.takes out.old (fault_shown self.now) out.new }
+    {
+        number(out, self.cause.number());
+        out.text(b" ");
+        out.text(self.cause.letter().as_bytes());
+        out.text(b" ");
+        number(out, self.line);
+        out.text(b" ");
+        number(out, self.column);
+    }
 
-    fn fmt<W: fmt::Write>(&self, f: &mut fmt::Formatter<W>) -> fmt::Result {
-        let number = self.cause.number();
-        let letter = self.cause.letter();
-        write!(f, "{number} {letter} {} {}", self.line, self.column)
+    // A refusal of the script as a whole, at line 1 and column 1.
+    pub(crate) fn at_the_start(fault: LineFault) -> ScriptFault
+        ensures { result ≡ record { cause = Line fault; line = 1; column = 1 } }
+    {
+        ScriptFault {
+            cause: Cause::Line(fault),
+            line: 1,
+            column: 1,
+        }
     }
 }
 
@@ -134,31 +147,6 @@ impl From<(OrderPlace, StoreFault)> for ScriptFault {
     }
 }
 
-// Why a script ends at its head: a refusal, or want of memory. It has the shape of `ImageError`, but is no instance of
-// an enum of that crate: for a type of another crate this one could not have the conversions below.
-#[derive(Clone, Copy)]
-pub(crate) enum ScriptError {
-    Fault(ScriptFault),
-    NoMemory,
-}
-
-impl From<AllocError> for ScriptError {
-    ghost from_gives = { λ _ r. r ≡ NoMemory };
-
-    fn from(_: AllocError) -> ScriptError {
-        ScriptError::NoMemory
-    }
-}
-
-// A head that is not well written, with its line.
-impl From<(usize, Refusal)> for ScriptError {
-    ghost from_gives = { λ e r. r ≡ Fault (record { cause = Line e.1.fault; line = e.0; column = e.1.column }) };
-
-    fn from(refusal: (usize, Refusal)) -> ScriptError {
-        ScriptError::Fault(ScriptFault::from(refusal))
-    }
-}
-
 // A heading, and the number of its line.
 #[derive(Clone, Copy)]
 pub(crate) struct HeadPlace {
@@ -167,41 +155,38 @@ pub(crate) struct HeadPlace {
 }
 
 // Counts that no image can have, named by their words.
-impl From<(HeadPlace, ImageError)> for ScriptError {
-    ghost from_gives = { λ e r. r ≡ image_error e.0.line e.0.heading e.1 };
+impl From<(HeadPlace, ImageFault)> for ScriptFault {
+    ghost from_gives = { λ e r. r ≡ image_refused e.0.line e.0.heading e.1 };
 
-    fn from(refusal: (HeadPlace, ImageError)) -> ScriptError {
-        let (place, error) = refusal;
-        let ImageError::Image(fault) = error else {
-            return ScriptError::NoMemory;
-        };
+    fn from(refusal: (HeadPlace, ImageFault)) -> ScriptFault {
+        let (place, fault) = refusal;
         let column = match fault {
             ImageFault::Pages => place.heading.pages.column,
             ImageFault::Width => place.heading.width.column,
             _ => 1,
         };
-        ScriptError::Fault(ScriptFault {
+        ScriptFault {
             cause: Cause::Image(fault),
             line: place.line,
             column,
-        })
+        }
     }
 }
 
 // A making that was refused, by the group or by the cells to a record.
-impl From<(HeadPlace, MakingFault)> for ScriptError {
-    ghost from_gives = { λ e r. r ≡ making_error e.0.line e.0.heading e.1 };
+impl From<(HeadPlace, MakingFault)> for ScriptFault {
+    ghost from_gives = { λ e r. r ≡ making_refused e.0.line e.0.heading e.1 };
 
-    fn from(refusal: (HeadPlace, MakingFault)) -> ScriptError {
+    fn from(refusal: (HeadPlace, MakingFault)) -> ScriptFault {
         let (place, fault) = refusal;
         let column = match fault {
             MakingFault::Unusable => 3,
             MakingFault::Cells | MakingFault::Narrow => place.heading.n.column,
         };
-        ScriptError::Fault(ScriptFault {
+        ScriptFault {
             cause: Cause::Making(fault),
             line: place.line,
             column,
-        })
+        }
     }
 }

@@ -1,10 +1,12 @@
-// Scripts: a head that makes a store over a fresh flash part, and lines that make calls on it.
-// Whatever the script, it is answered to the end, and its calls keep the whole promise of a store.
+//! Scripts: a head that makes a store over a fresh flash part, and lines that make calls on it.
+//! Whatever the script, it is answered to the end, and its calls keep the whole promise of a store.
 #![tactic(auto)]
 
 mod answer;
 pub mod fault;
 mod lines;
+pub mod output;
+pub mod printer;
 pub mod reply;
 mod rest;
 pub mod script;

@@ -1,30 +1,62 @@
-// A whole script: any bytes are taken, and answered to the end.
-// The text is what the script prints, and the calls behind it keep the whole promise of a store.
-ghost use Rattle.std.specs.Prelude.{◌≡◌, List, IfOk, string_bytes};
-ghost use Rattle.script.specs.declared.reply.Reply.{Reply};
-ghost use Rattle.script.specs.Replies.{printed};
-ghost use Rattle.script.specs.Script.{Prints};
+//! A whole script: any bytes are taken, and answered to the end.
+//! The part is an image in bytes that the caller lends, so that no memory is needed and no error is left.
+ghost use Rattle.script.specs.Printing.{Replied, RepliesWritten};
+ghost use Rattle.script.specs.Script.{Runs, lent};
 
-use crate::fault::ScriptError;
-use crate::reply::{Reply, print_all};
+use crate::output::Output;
+use crate::printer::Printer;
+use crate::reply::Reply;
 use crate::start::start;
-use std::alloc::{AllocError, Global};
+use images::flash::MAX_IMAGE;
+use std::io;
 
-// The text that a script prints.
-pub fn run_script(heap: Global, script: &[u8]) -> Result<String, AllocError>
-    ensures { IfOk result (λ text. (out : List Reply) × Prints script.now out × (string_bytes text ≡ printed out)) }
+/// Runs a script: each line is answered, and its reply printed, before the next one is read. The part of the head's store
+/// lies in the first of the lent bytes; it answers how many of them are the image that the last call left, or none where
+/// the script is too long or its head is missing or refused. Then one refusal is printed, and no byte is altered.
+pub fn run_script<O: Output>(
+    script: &[u8],
+    image: &mut [u8; MAX_IMAGE],
+    out: &mut O,
+) -> Option<usize>
+    ensures { Replied O.Output out.old out.new
+        (λ replies. Runs script.now replies (lent image.old image.new result)) }
 {
-    let replies = answer_script(heap, script)?;
-    print_all(heap, &replies)
+    match start(script, image, out) {
+        Ok(size) => Some(size),
+        Err(fault) => {
+            Reply::Refused { fault }.print(out);
+            None
+        }
+    }
 }
 
-// The replies to its lines, or the one refusal at its start.
-pub fn answer_script(heap: Global, script: &[u8]) -> Result<Vec<Reply>, AllocError>
-    ensures { IfOk result (λ replies. Prints script.now replies.items) }
+/// What is left of a script whose replies went to a writer.
+#[derive(Drop)]
+pub struct Outcome<W> {
+    /// The writer.
+    pub writer: W,
+    /// How many of the lent bytes are the image, if there is one.
+    pub image: Option<usize>,
+    /// Whether all that was printed is written, or the writer's first fault.
+    pub written: io::Result<()>,
+}
+
+/// Runs a script and writes what it prints. Where the writer fails, the script is run to its end all the same and leaves
+/// the same image; the writer then holds a beginning of what was printed.
+pub fn print_script<W: io::Write>(
+    script: &[u8],
+    image: &mut [u8; MAX_IMAGE],
+    writer: W,
+) -> Outcome<W>
+    ensures { RepliesWritten (W.contents writer) (W.contents result.writer) result.written
+        (λ replies. Runs script.now replies (lent image.old image.new result.image)) }
 {
-    match start(heap, script) {
-        Ok(replies) => Ok(replies),
-        Err(ScriptError::NoMemory) => Err(AllocError),
-        Err(ScriptError::Fault(fault)) => Ok(vec![in heap; Reply::Refused { fault }]?),
+    let mut printer = Printer::new(writer);
+    let image = run_script(script, image, &mut printer);
+    let (writer, written) = printer.finish();
+    Outcome {
+        writer,
+        image,
+        written,
     }
 }

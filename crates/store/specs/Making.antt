@@ -1,5 +1,5 @@
 -- What the check of a making answers. Assumes nothing.
-use Rattle.std.specs.Prelude.{ℕ, Ok, Err, Result}
+use Rattle.std.specs.Prelude.{◌≡◌, ℕ, Ok, Err, Result}
 use Rattle.coset.specs.Code.{Code}
 use Rattle.cells.specs.Cells.{Cells as Meaning}
 use Rattle.cells.specs.Rows.{Refused, Served}
@@ -17,3 +17,7 @@ making_number Narrow = 32
 abbrev pub Makes : Code → Meaning → {A : Type 0} → Result A MakingFault → Type 0
 Makes c m (Ok u) = Served (making_rows c m)
 Makes c m (Err f) = Refused (making_rows c m) (making_number f)
+
+-- The same of any array of this width.
+abbrev pub MakesAt : Code → ℕ → {A : Type 0} → Result A MakingFault → Type 0
+MakesAt c width r = (m : Meaning) → m.width ≡ width → Makes c m r

@@ -2,7 +2,7 @@
 //! The first row that holds is answered, by its own fault.
 ghost use Rattle.std.specs.Prelude.{◌≡◌};
 ghost use Rattle.coset.specs.Codes.{code_of};
-ghost use Rattle.store.specs.Making.{making_number, Makes};
+ghost use Rattle.store.specs.Making.{making_number, Makes, MakesAt};
 
 use cells::array::CellArray;
 use coset::cellset::MAX_CELLS;
@@ -37,13 +37,20 @@ impl MakingFault {
 pub fn check_making<G: Group, A: CellArray>(code: &Code<G>, array: &A) -> Result<(), MakingFault>
     ensures { Makes (code_of G.Group code.now) (A.cells array.now) result }
 {
+    check_making_at(code, array.width())
+}
+
+/// The same for an array with pages of so many cells, which need not be there yet.
+pub fn check_making_at<G: Group>(code: &Code<G>, width: usize) -> Result<(), MakingFault>
+    ensures { MakesAt (code_of G.Group code.now) width result }
+{
     if !code.group.is_usable() {
         return Err(MakingFault::Unusable);
     }
     if code.cells == 0 || code.cells > MAX_CELLS {
         return Err(MakingFault::Cells);
     }
-    if array.width() < code.cells {
+    if width < code.cells {
         return Err(MakingFault::Narrow);
     }
     Ok(())
