@@ -1,9 +1,11 @@
-// Fresh flash images, and the listing of a flash image.
-// Lengths and counts are reckoned by hand from the layout of an image.
+//! Fresh flash images, and the listing of a flash image.
+//! Lengths and counts are reckoned by hand from the layout of an image.
 use crate::sample_images::FLASH;
-use images::fault::{ImageError, ImageFault};
+use images::fault::ImageFault;
+use images::flash::MAX_IMAGE;
 use images::format::Format;
-use images::fresh::fresh_flash;
+use images::fresh::write_fresh;
+use images::layout::MAX_PAGES;
 use listing::listing::list_flash;
 use listing::report::PageReport;
 use std::test::Fail;
@@ -19,8 +21,9 @@ fn a_fresh_image_byte_by_byte(rt: HostRuntime) -> Result<(), Fail> {
         ),
     ];
     for (pages, width, bytes) in cases {
-        let image = fresh_flash(rt.alloc(), pages, width)?;
-        assert_eq!(rt; image.as_slice(), bytes);
+        let mut image = [0xaa; MAX_IMAGE];
+        let size = write_fresh(&mut image, pages, width)?;
+        assert_eq!(rt; &image[..size], bytes);
     }
     Ok(())
 }
@@ -35,10 +38,11 @@ fn fresh_images_are_good_up_to_the_bounds(rt: HostRuntime) -> Result<(), Fail> {
         (64, 1_024, 8_451),
     ];
     for (pages, width, length) in cases {
-        let image = fresh_flash(rt.alloc(), pages, width)?;
-        let layout = Format::Flash.check(&image)?;
+        let mut image = [0xaa; MAX_IMAGE];
+        let size = write_fresh(&mut image, pages, width)?;
+        let layout = Format::Flash.check(&image[..size])?;
         assert_eq!(rt; (layout.pages, layout.width), (pages, width));
-        assert_eq!(rt; image.len(), length, "{pages} pages of {width}");
+        assert_eq!(rt; size, length, "{pages} pages of {width}");
     }
     Ok(())
 }
@@ -55,12 +59,14 @@ fn fresh_images_past_the_bounds_are_refused(rt: HostRuntime) {
         (0, 0, ImageFault::Pages),
         (usize::MAX, usize::MAX, ImageFault::Pages),
     ];
+    let mut image = [0xaa; MAX_IMAGE];
     for (pages, width, fault) in cases {
-        assert_eq!(rt;
-            fresh_flash(rt.alloc(), pages, width),
-            Err(ImageError::Image(fault))
-        );
+        assert_eq!(rt; write_fresh(&mut image, pages, width), Err(fault));
     }
+}
+
+fn report(wear: u32, set: usize) -> PageReport {
+    PageReport { wear, set }
 }
 
 // Each case has the counts of the two pages: the wear, and how many cells are set.
@@ -69,18 +75,30 @@ fn a_listing_counts_each_page(rt: HostRuntime) -> Result<(), Fail> {
     let worn = [
         2, 0, 0, 0, 0, 0, 0, 0x27, 0x10, 0, 9, 0xff, 0xff, 0x00, 0xfe,
     ];
-    let report = |wear, set| PageReport { wear, set };
     let cases = [
         (FLASH, 12, [report(0, 2), report(3, 3)]),
         (worn, 9, [report(0, 0), report(10_000, 9)]),
     ];
-    for (bytes, width, reports) in cases {
+    for (bytes, width, expected) in cases {
         let mut image = bytes;
-        let listing = list_flash(rt.alloc(), &mut image)?;
+        let mut reports = [PageReport::default(); MAX_PAGES];
+        let layout = list_flash(&mut image, &mut reports)?;
         assert_eq!(rt; image, bytes, "nothing is altered");
-        assert_eq!(rt; (listing.pages(), listing.width), (2, width));
-        assert_eq!(rt; listing.reports.as_slice(), reports.as_slice());
+        assert_eq!(rt; (layout.pages, layout.width), (2, width));
+        assert_eq!(rt; &reports[..2], expected.as_slice());
     }
+    Ok(())
+}
+
+// Each place begins with what no page of this image has.
+#[test]
+fn a_listing_of_the_largest_image(rt: HostRuntime) -> Result<(), Fail> {
+    let mut image = [0xaa; MAX_IMAGE];
+    assert_eq!(rt; write_fresh(&mut image, 64, 1_024), Ok(8_451));
+    let mut reports = [report(1, 1); MAX_PAGES];
+    let layout = list_flash(&mut image, &mut reports)?;
+    assert_eq!(rt; (layout.pages, layout.width), (64, 1_024));
+    assert_eq!(rt; reports, [report(0, 0); 64]);
     Ok(())
 }
 
@@ -96,10 +114,8 @@ fn a_listing_of_refused_bytes_is_the_fault(rt: HostRuntime) -> Result<(), Fail> 
     ];
     for (bytes, fault) in cases {
         let mut image = bytes.to_vec(rt.alloc())?;
-        assert_eq!(rt;
-            list_flash(rt.alloc(), &mut image).err(),
-            Some(ImageError::Image(fault))
-        );
+        let mut reports = [PageReport::default(); MAX_PAGES];
+        assert_eq!(rt; list_flash(&mut image, &mut reports), Err(fault));
         assert_eq!(rt; image.as_slice(), bytes, "nothing is altered");
     }
     Ok(())

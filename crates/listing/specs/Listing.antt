@@ -1,11 +1,10 @@
 -- What a listing of an image says. Assumes nothing.
-use Rattle.std.specs.Prelude.{◌≡◌, ℕ, List, map, Ok, Err, vec_items, vec_len, Result}
+use Rattle.std.specs.Prelude.{◌≡◌, ℕ, List, ◌++◌, map, drop, Ok, Err, Result}
 use Rattle.std.specs.List.{range_with_len}
-use Rattle.images.specs.declared.fault.ImageError.{ImageError}
-use Rattle.images.specs.declared.fault.ImageError.TheVariants.{Image, NoMemory}
+use Rattle.images.specs.declared.fault.ImageFault.{ImageFault}
 use Rattle.images.specs.declared.format.Format.TheVariants.{Flash}
+use Rattle.images.specs.declared.layout.Layout.{Layout}
 use Rattle.listing.specs.declared.report.PageReport.{PageReport}
-use Rattle.listing.specs.declared.report.Listing.{Listing}
 use Rattle.cells.specs.Cells.{Cells}
 use Rattle.cells.specs.Sets.{size_below}
 use Rattle.cells.specs.Rows.{Refused, Served}
@@ -21,11 +20,15 @@ page_report m p = record { wear = m.wear p; set = size_below (m.set p) m.width }
 abbrev pub page_reports : Cells → List PageReport
 page_reports m = map (page_report m) (range_with_len 0 m.pages)
 
--- The width of the flash image xs, and the wear and the number of set cells of each of its pages; or the first row that
--- holds refuses it.
-abbrev pub Lists : List ℕ → Result Listing ImageError → Type 0
-Lists xs (Ok l) =
-    Served (image_rows Flash xs) × (vec_len l.reports ≡ (decoded Flash xs).pages) × (l.width ≡ (decoded Flash xs).width)
-    × (vec_items l.reports ≡ page_reports (decoded Flash xs))
-Lists xs (Err (Image e)) = Refused (image_rows Flash xs) (image_number e)
-Lists xs (Err NoMemory) = Served (image_rows Flash xs)
+-- The flash image xs is good and has the layout l. The first places hold the reports of its pages, and those after them
+-- are as they were.
+pub record Listed (xs : List ℕ) (before after : List PageReport) (l : Layout) : Type 0 where
+  pub accepted : Served (image_rows Flash xs)
+  pub pages : l.pages ≡ (decoded Flash xs).pages
+  pub width : l.width ≡ (decoded Flash xs).width
+  pub reports : after ≡ page_reports (decoded Flash xs) ++ drop l.pages before
+
+-- The image is listed, or the first row that holds refuses it, and then every place is as it was.
+abbrev pub Lists : List ℕ → List PageReport → List PageReport → Result Layout ImageFault → Type 0
+Lists xs before after (Ok l) = Listed xs before after l
+Lists xs before after (Err e) = Refused (image_rows Flash xs) (image_number e) × (after ≡ before)

@@ -1,36 +1,43 @@
-// Reading the listing of a flash image, or why it is refused.
-// It goes over the image by the looks and wear questions of the flash part alone.
-ghost use Rattle.std.specs.Prelude.{◌≡◌, ◌<◌, IfOk};
+//! Reading the listing of a flash image, or why it is refused.
+//! It goes over the image by the looks and wear questions of the flash part alone, and needs no memory.
+ghost use Rattle.std.specs.Prelude.{◌≡◌, ◌<◌, length};
 ghost use Rattle.cells.specs.Sets.{size_below};
 ghost use Rattle.listing.specs.Listing.{page_report, page_reports, Lists};
 
-use crate::report::{Listing, PageReport};
+use crate::report::PageReport;
 use cells::array::{CellArray, Erasable};
-use images::fault::ImageError;
+use images::fault::ImageFault;
 use images::flash::FlashPart;
 use images::format::Format;
-use std::alloc::{AllocError, Global};
+use images::layout::{Layout, MAX_PAGES};
 
-// Any bytes are taken, and none is altered.
-pub fn list_flash(heap: Global, image: &mut [u8]) -> Result<Listing, ImageError>
-    ensures lists { Lists image.old result }
+/// Reports each page of a flash image, of which any bytes are taken and none is altered. The caller lends a place for
+/// every page that an image can have: the first places get the reports, one for each page in order, and those after
+/// them stay as they were. The answer is how many pages there are, from 1 to 64, and how many cells a page has, from 1
+/// to 1,024. A refused image leaves every place as it was. It is refused by the first that holds, in reading order:
+/// 10 where the bytes end early, 11 for the count of pages, 15 for a wear count, 12 for the width, 14 for an unused bit
+/// that reads as set, and 13 for bytes after the last page.
+pub fn list_flash(
+    image: &mut [u8],
+    reports: &mut [PageReport; MAX_PAGES],
+) -> Result<Layout, ImageFault>
+    ensures lists { Lists image.old reports.old reports.new result }
     ensures same { image.new ≡ image.old }
 {
     let layout = Format::Flash.check(image)?;
     let part = FlashPart::over(image);
-    let reports = report_pages(heap, &part)?;
-    Ok(Listing {
-        width: layout.width,
-        reports,
-    })
+    report_pages(&part, &mut reports[..layout.pages]);
+    Ok(layout)
 }
 
-fn report_pages<A: Erasable>(heap: Global, array: &A) -> Result<Vec<PageReport>, AllocError>
-    ensures { IfOk result (λ v. v.items ≡ page_reports (A.CellArray.cells array.now)) }
+// A report of each page into its place.
+fn report_pages<A: Erasable>(array: &A, reports: &mut [PageReport])
+    requires { length reports.old ≡ (A.CellArray.cells array.now).pages }
+    ensures { reports.new ≡ page_reports (A.CellArray.cells array.now) }
 {
-    (0..array.pages())
-        .map(|page| report(array, page))
-        .collect(heap)
+    for (page, place) in reports.iter_mut().enumerate() {
+        *place = report(array, page);
+    }
 }
 
 fn report<A: Erasable>(array: &A, page: usize) -> PageReport
@@ -45,7 +52,8 @@ fn report<A: Erasable>(array: &A, page: usize) -> PageReport
 // How many cells of a page are set.
 fn count_set<A: CellArray>(array: &A, page: usize) -> usize
     requires { page < (A.CellArray.cells array.now).pages }
-    ensures { result ≡ size_below ((A.CellArray.cells array.now).set page) (A.CellArray.cells array.now).width }
+    ensures { result ≡ size_below ((A.CellArray.cells array.now).set page)
+        (A.CellArray.cells array.now).width }
 {
     (0..array.width())
         .filter(|cell| array.is_set(page, *cell))

@@ -1,25 +1,12 @@
-// What a listing says of an image: its width, and a report of each page.
-// It is plain data, which its reader may print or compare.
-ghost use Rattle.std.specs.Prelude.{◌≡◌, vec_len};
+//! What a listing says of a page of an image.
+//! It is plain data, which its reader may print or compare.
 
-#[derive(Clone, Copy, PartialEq, Debug)]
+/// The wear of a page, and how many of its cells are set. The default, of no wear and no cell, fills a place that waits
+/// for its report.
+#[derive(Clone, Copy, Default, PartialEq, Debug)]
 pub struct PageReport {
+    /// how often the page was erased, up to 10,000
     pub wear: u32,
-    // how many cells of the page are set
+    /// how many of its cells are set, up to 1,024
     pub set: usize,
-}
-
-#[derive(Drop)]
-pub struct Listing {
-    pub width: usize,
-    // one for each page, in order
-    pub reports: Vec<PageReport>,
-}
-
-impl Listing {
-    pub fn pages(&self) -> usize
-        ensures { result ≡ vec_len self.now.reports }
-    {
-        self.reports.len()
-    }
 }

@@ -1,33 +1,30 @@
-// Keeps session numbers modulo 7 in records of six cells, on the bench part and on a flash image.
-// It prints what each call of a list did, what the store counted, and the wear of each page.
+//! Keeps session numbers modulo 7 in records of six cells, on the bench part and on a flash image.
+//! It prints what each call of a list did, what the store counted, and the wear of each page.
 #![tactic(auto)]
 
 mod lists;
 
 use crate::lists::{UNTIL_WORN, WITH_A_NEIGHBOUR};
-use anyhow::anyhow;
 use calls::call::{Call, Entry};
 use calls::ledger::Ledger;
 use cells::array::{CellArray, Erasable};
 use cells::bench::Bench;
 use coset::code::Code;
 use group::integers::Integers;
-use images::fault::ImageError;
-use images::flash::FlashPart;
-use images::fresh::fresh_flash;
+use images::flash::{FlashPart, MAX_IMAGE};
+use images::fresh::write_fresh;
 use std::io;
 use store::run::serve_calls;
 
-fn main(rt: HostRuntime) -> anyhow::Result<()> {
+fn main(rt: HostRuntime) -> io::Result<()> {
     println!(rt; "bench part")?;
     let mut bench = Bench::new();
     show_run(&rt, &mut bench, &mut UNTIL_WORN.map(Entry::new))?;
     println!(rt; "flash image of one page of 12 cells")?;
-    let mut image = fresh_flash(rt.alloc(), 1, 12).map_err(|error| match error {
-        ImageError::NoMemory => anyhow!("no memory for the image"),
-        ImageError::Image(fault) => anyhow!("refused {}", fault.number()),
-    })?;
-    let mut flash = FlashPart::over(&mut image);
+    let mut image = [0; MAX_IMAGE];
+    // Counts within the bounds are not refused, as the contract of the call says.
+    let size = write_fresh(&mut image, 1, 12).unwrap();
+    let mut flash = FlashPart::over(&mut image[..size]);
     show_run(&rt, &mut flash, &mut WITH_A_NEIGHBOUR.map(Entry::new))
 }
 
@@ -36,15 +33,14 @@ fn show_run<A: Erasable>(
     rt: &HostRuntime,
     array: &mut A,
     entries: &mut [Entry<Call>],
-) -> anyhow::Result<()> {
+) -> io::Result<()> {
     let code = Code::new(Integers::new(7), 6);
     let ledger = serve_calls(code, array, entries);
     for entry in entries.iter() {
         show_entry(rt, entry)?;
     }
     show_ledger(rt, &ledger)?;
-    show_wear(rt, array)?;
-    Ok(())
+    show_wear(rt, array)
 }
 
 // Here and below each value is printed at one place, in words of this program: a `Display` would be no shorter.

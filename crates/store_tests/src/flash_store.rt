@@ -4,8 +4,8 @@ use crate::runs::*;
 use coset::code::Code;
 use group::integers::Integers;
 use group::vectors::Vectors;
-use images::flash::FlashPart;
-use images::fresh::fresh_flash;
+use images::flash::{FlashPart, MAX_IMAGE};
+use images::fresh::write_fresh;
 use std::test::Fail;
 
 #[test]
@@ -45,8 +45,9 @@ fn records_by_pages_and_width(rt: HostRuntime) -> Result<(), Fail> {
         (64, 63, 1, 4_032),
     ];
     for (pages, width, n, records) in cases {
-        let mut image = fresh_flash(rt.alloc(), pages, width)?;
-        let part = FlashPart::over(&mut image);
+        let mut image = [0; MAX_IMAGE];
+        let size = write_fresh(&mut image, pages, width)?;
+        let part = FlashPart::over(&mut image[..size]);
         check_records(&rt, Code::new(Integers::new(7), n), part, records)?;
     }
     Ok(())
@@ -56,10 +57,10 @@ fn records_by_pages_and_width(rt: HostRuntime) -> Result<(), Fail> {
 // the pages of 128 bytes begin at byte 259.
 #[test]
 fn the_last_of_the_most_records(rt: HostRuntime) -> Result<(), Fail> {
-    let mut image = fresh_flash(rt.alloc(), 64, 1_024)?;
-    let mut expected = fresh_flash(rt.alloc(), 64, 1_024)?;
-    let byte = expected.get_mut(259 + 63 * 128 + 7).ok_or("short")?;
-    *byte = 0x7f;
+    let mut image = [0; MAX_IMAGE];
+    write_fresh(&mut image, 64, 1_024)?;
+    let mut expected = image;
+    expected[259 + 63 * 128 + 7] = 0x7f;
     check_calls(
         &rt,
         rt.alloc(),

@@ -8,19 +8,20 @@ use cells::bench::Bench;
 use coset::code::Code;
 use group::integers::Integers;
 use group::vectors::Vectors;
-use images::flash::FlashPart;
-use images::fresh::fresh_flash;
+use images::flash::{FlashPart, MAX_IMAGE};
+use images::fresh::write_fresh;
 use std::test::Fail;
 use store::store::Store;
 
 #[test]
 fn a_history_with_every_kind_of_call(rt: HostRuntime) -> Result<(), Fail> {
-    let mut image = fresh_flash(rt.alloc(), 1, 6)?;
+    let mut image = [0; MAX_IMAGE];
+    let size = write_fresh(&mut image, 1, 6)?;
     let counted = check_calls(
         &rt,
         rt.alloc(),
         Code::new(Vectors::new(2), 3),
-        &mut FlashPart::over(&mut image),
+        &mut FlashPart::over(&mut image[..size]),
         &[
             (put(0, 1), Ok(1)),
             (put(0, 0), Ok(2)),
@@ -36,7 +37,7 @@ fn a_history_with_every_kind_of_call(rt: HostRuntime) -> Result<(), Fail> {
     assert_eq!(rt; counted, ledger(3, 1, 6));
     assert_eq!(rt; counted.rate(), Some(300));
     assert_eq!(rt;
-        image.as_slice(),
+        &image[..size],
         [1, 0, 0, 0, 1, 0, 6, 0xeb].as_slice(),
         "cells 2 and 4 are set"
     );
