@@ -37,7 +37,7 @@ use Rattle.script.specs.declared.fault.HeadPlace.{HeadPlace}
 use Rattle.script.specs.declared.fault.ScriptFault.{ScriptFault}
 use Rattle.script.specs.declared.reply.Reply.{Reply}
 use Rattle.script.specs.declared.reply.Reply.TheVariants.{Refused as RefusedLine}
-use Rattle.script.specs.HeadErrors.{image_column, making_column, image_refused, making_refused as making_fault}
+use Rattle.script.specs.Refusals.{image_column, making_column, image_refused, making_refused as making_fault}
 use Rattle.script.specs.Lines.{numbered}
 use Rattle.script.specs.Execution.{refusal, ExecutesLines, Answered}
 use Rattle.script.specs.Script.{Lent, lent, NoImage, LeavesImage, code_of_heading, heading_rows, MadeStore, Starts, Runs}

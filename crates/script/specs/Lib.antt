@@ -2,7 +2,7 @@ pub mod Lines
 pub mod Faults
 pub mod Replies
 pub mod Execution
-pub mod HeadErrors
+pub mod Refusals
 pub mod Script
 pub mod Writing
 pub mod Printing

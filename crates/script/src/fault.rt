@@ -5,7 +5,7 @@ ghost use Rattle.script.specs.declared.fault.Cause.TheVariants.{Line, Image, Mak
 ghost use Rattle.script.specs.Faults.{cause_number, cause_letter};
 ghost use Rattle.script.specs.Replies.{fault_shown};
 ghost use Rattle.script.specs.Execution.{fault_of_call, place_of, place_of_get};
-ghost use Rattle.script.specs.HeadErrors.{image_refused, making_refused};
+ghost use Rattle.script.specs.Refusals.{at_the_start, line_refused, image_refused, making_refused};
 
 use crate::output::{Output, number};
 use calls::fault::StoreFault;
@@ -73,7 +73,7 @@ impl ScriptFault {
 
     // A refusal of the script as a whole, at line 1 and column 1.
     pub(crate) fn at_the_start(fault: LineFault) -> ScriptFault
-        ensures { result ≡ record { cause = Line fault; line = 1; column = 1 } }
+        ensures { result ≡ at_the_start fault }
     {
         ScriptFault {
             cause: Cause::Line(fault),
@@ -85,7 +85,7 @@ impl ScriptFault {
 
 // A refused line, with its number.
 impl From<(usize, Refusal)> for ScriptFault {
-    ghost from_gives = { λ e r. r ≡ record { cause = Line e.1.fault; line = e.0; column = e.1.column } };
+    ghost from_gives = { λ e r. r ≡ line_refused e.0 e.1 };
 
     fn from(refusal: (usize, Refusal)) -> ScriptFault {
         let (line, Refusal { fault, column }) = refusal;

@@ -7,7 +7,7 @@ use arrayvec::ArrayVec;
 use std::io;
 
 // how many bytes are collected at most
-const BLOCK: usize = 1_024;
+const BLOCK: usize = 4_096;
 
 /// An output over a writer.
 #[derive(Drop)]
