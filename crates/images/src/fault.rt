@@ -1,27 +1,27 @@
-// Faults of images: why one was refused.
-// Each refusal stands for one number of the table of refusals.
+//! Faults of images: why one was refused.
+//! Each refusal stands for one number of the table of refusals.
 ghost use Rattle.std.specs.Prelude.{◌≡◌};
 ghost use Rattle.images.specs.Faults.{image_number};
 
-// A refused image.
+/// A refused image.
 #[derive(Clone, Copy, PartialEq, Debug)]
 pub enum ImageFault {
-    // the bytes end inside a count or a section
+    /// The bytes end inside a count or a section.
     Short,
-    // the count of pages is 0 or above 64
+    /// The count of pages is 0 or above 64.
     Pages,
-    // the width is 0 or above 1,024
+    /// The width is 0 or above 1,024.
     Width,
-    // bytes follow the last page
+    /// Bytes follow the last page.
     Trailing,
-    // a bit that belongs to no cell reads as set
+    /// A bit that belongs to no cell reads as set.
     Stray,
-    // a wear count is above 10,000
+    /// A wear count is above 10,000.
     Wear,
 }
 
 impl ImageFault {
-    // The number of the table of refusals, by cases, as that table has it.
+    /// The number of the table of refusals, by cases, as that table has it.
     pub fn number(self) -> u32
         ensures { result ≡ image_number self }
     {

@@ -1,5 +1,5 @@
-// The flash part: pages of cells in a flash image that is lent to it.
-// A set cell is a 0 bit. An erase writes the page's own bytes and its wear count, whose limit is 10,000.
+//! The flash part: pages of cells in a flash image that is lent to it.
+//! A set cell is a 0 bit. An erase writes the page's own bytes and its wear count, whose limit is 10,000.
 ghost use Rattle.std.specs.Prelude.{◌≡◌, ◌+◌, ◌*◌, ◌<◌, [], ◌∷◌, length};
 ghost use Rattle.images.specs.declared.format.Format.TheVariants.{Flash as FlashFormat};
 ghost use Rattle.cells.specs.Device.{Erases, Kept};
@@ -15,10 +15,10 @@ use crate::part::{Kind, Part};
 use cells::array::{CellArray, Erasable};
 use cells::fault::DeviceFault;
 
-// How often a page may be erased.
+/// How often a page may be erased.
 pub const LIMIT: u32 = 10_000;
 
-// The bytes of the largest flash image, of 64 pages of 1,024 cells.
+/// The bytes of the largest flash image, of 64 pages of 1,024 cells.
 pub const MAX_IMAGE: usize = 8_451;
 
 #[derive(Clone, Copy)]

@@ -1,14 +1,16 @@
-// The layout of an image: how many pages it has, and how many cells a page.
-// Both are within the bounds of every cell array.
+//! The layout of an image: how many pages it has, and how many cells a page.
+//! Both are within the bounds of every cell array.
 ghost use Rattle.std.specs.Prelude.{◌≤◌};
 
 use crate::fault::ImageFault;
 
-// the most pages, and the most cells of a page
+/// The most pages of an image.
 pub const MAX_PAGES: usize = 64;
 
+/// The most cells of a page.
 pub const MAX_WIDTH: usize = 1024;
 
+/// So many pages of so many cells, within the bounds of every image. Bytes that are no good image have none of either.
 #[derive(Clone, Copy, PartialEq, Debug)]
 pub struct Layout {
     pub pages: usize,
@@ -36,8 +38,9 @@ impl Layout {
         Ok(Layout { pages, width })
     }
 
-    // Whether an image can have so many pages. The two counts have a check each, since an image has other rows between;
-    // one function for both would be handed the bound and the fault of each.
+    /// Whether an image can have so many pages; refused by 11.
+    // The two counts have a check each, since an image has other rows between; one function for both would be handed the
+    // bound and the fault of each.
     pub fn check_pages(pages: usize) -> Result<(), ImageFault>
         ensures { ChecksStep (page_bound_rows pages) (λ _. (0 < pages) × (pages ≤ 64)) result }
     {
@@ -47,7 +50,7 @@ impl Layout {
         Ok(())
     }
 
-    // Whether its pages can have so many cells.
+    /// Whether its pages can have so many cells; refused by 12.
     pub fn check_width(width: usize) -> Result<(), ImageFault>
         ensures { ChecksStep (width_bound_rows width) (λ _. (0 < width) × (width ≤ 1024)) result }
     {

@@ -1,5 +1,5 @@
-// Images of cell arrays: the two formats, their check, fresh images, and the parts that work on an image lent to
-// them, the fuse bank and the flash part.
+//! Images of cell arrays: the two formats, their check, fresh images, and the parts that work on an image lent to
+//! them, the fuse bank and the flash part.
 #![tactic(auto)]
 
 mod check;

@@ -1,5 +1,5 @@
-// One line after the head: its order is read, its calls are made, and the reply is what they answered.
-// A refused line makes no call.
+//! One line after the head: its order is read, its calls are made, and the reply is what they answered.
+//! A refused line makes no call.
 ghost use Rattle.std.specs.Prelude.{◌≡◌, Decides, MatchResult, IsOkAnd};
 ghost use Rattle.calls.specs.History.{RefusedFull};
 ghost use Rattle.coset.specs.Codes.{code_of};

@@ -1,5 +1,5 @@
-// Faults of a script: what a line, a making or a call was refused for, whole, with the line and the column.
-// Each cause has the number and the place letter of the table of refusals.
+//! Faults of a script: what a line, a making or a call was refused for, whole, with the line and the column.
+//! Each cause has the number and the place letter of the table of refusals.
 ghost use Rattle.std.specs.Prelude.{◌≡◌};
 ghost use Rattle.script.specs.declared.fault.Cause.TheVariants.{Line, Image, Making, Store};
 ghost use Rattle.script.specs.Faults.{cause_number, cause_letter};
@@ -15,15 +15,21 @@ use commands::word::Number;
 use images::fault::ImageFault;
 use store::making::MakingFault;
 
+/// What a script, or a line of it, was refused for.
 #[derive(Clone, Copy, PartialEq, Debug)]
 pub enum Cause {
+    /// The form of a line, or of the script.
     Line(LineFault),
+    /// Counts of a head that no image can have.
     Image(ImageFault),
+    /// A store that cannot be made.
     Making(MakingFault),
+    /// A call of the store, or a step of its array.
     Store(StoreFault),
 }
 
 impl Cause {
+    /// Its number in the table of refusals.
     // By cases, since each holds another fault, whose own number it is.
     pub fn number(self) -> u32
         ensures { result ≡ cause_number self }
@@ -36,7 +42,7 @@ impl Cause {
         }
     }
 
-    // The letter of the place of the check, by cases, as the table of refusals has it.
+    /// The letter of the place of the check: T, I, M, S or D, as the table of refusals has it.
     pub fn letter(self) -> &'static str
         ensures { result.now ≡ cause_letter self }
     {
@@ -50,6 +56,7 @@ impl Cause {
     }
 }
 
+/// A refusal, with its place in the script. Lines and columns are counted from 1.
 #[derive(Clone, Copy, PartialEq, Debug)]
 pub struct ScriptFault {
     pub cause: Cause,
@@ -97,7 +104,7 @@ impl From<(usize, Refusal)> for ScriptFault {
     }
 }
 
-// Where an order stands: its line, and the columns of its words.
+/// Where an order stands: its line, and the columns of its words.
 #[derive(Clone, Copy)]
 pub struct OrderPlace {
     pub line: usize,

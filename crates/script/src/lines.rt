@@ -1,5 +1,5 @@
-// The lines of a script that are not empty, one after another, each with its number.
-// Empty lines are passed over, and counted.
+//! The lines of a script that are not empty, one after another, each with its number.
+//! Empty lines are passed over, and counted.
 ghost use Rattle.std.specs.Prelude.{◌≤◌};
 
 use scan::pieces::Pieces;
