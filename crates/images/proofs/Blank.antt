@@ -1,13 +1,13 @@
 -- The bytes of a fresh flash image. Assumes nothing.
-use Rattle.std.proofs.Common.{◌≡◌, ℕ, ◌+◌, ◌-◌, ◌*◌, ◌/◌, ◌%◌, ◌^◌, ◌<◌, ◌≤◌, false, cond, ◌&&◌, ltb, List, [], ◌∷◌, ◌++◌, map, length, take, replicate, is_ok, Ok, Result, sym, refl, ap, ◌∙◌, ap₂, inl, inr, arith}
+use Rattle.std.proofs.Common.{◌≡◌, ℕ, ◌+◌, ◌-◌, ◌*◌, ◌/◌, ◌%◌, ◌^◌, ◌<◌, ◌≤◌, false, ◌&&◌, ltb, List, [], ◌∷◌, ◌++◌, map, replicate, sym, refl, ap, ◌∙◌, ap₂, inl, inr, arith}
 use native.Mathlib.Nat.{zero-div}
 use Rattle.std.specs.List.{range_with_len}
-use Rattle.std.proofs.lemmas.List.{append_assoc, length-append, take_all, ext_get_or, length-replicate, get_or-replicate}
+use Rattle.std.proofs.lemmas.List.{ext_get_or, length-replicate, get_or-replicate}
 use Rattle.std.proofs.lemmas.List.FromFn.{length-map-range_with_len, get_or-map-range_with_len}
 use Rattle.std.proofs.lemmas.Bool.{and_right}
 use Rattle.images.specs.declared.format.Format.TheVariants.{Flash}
 use Rattle.cells.specs.Rows.{Served}
-use Rattle.images.specs.Image.{page_bytes, size}
+use Rattle.images.specs.Image.{page_bytes}
 use Rattle.images.specs.Written.{Writable, big_endian_byte, bit_for, page_byte, written}
 use Rattle.images.specs.Fresh.{blank, fresh_rows, FreshImage}
 use Rattle.images.proofs.ByteBits.{byte_same}

@@ -1,12 +1,11 @@
 -- A fresh flash image that is laid into given bytes, piece by piece. Assumes nothing.
-use Rattle.std.proofs.Common.{◌≡◌, ℕ, ◌+◌, ◌*◌, ◌/◌, ◌%◌, ◌<◌, ◌≤◌, List, [], ◌∷◌, ◌++◌, length, set, take, drop, replicate, sym, refl, ap, ◌∙◌, ap₂, arith}
+use Rattle.std.proofs.Common.{◌≡◌, ℕ, ◌+◌, ◌*◌, ◌/◌, ◌%◌, ◌≤◌, List, [], ◌∷◌, ◌++◌, length, set, take, replicate, sym, ap, ◌∙◌, ap₂, arith}
 use borrow.Rule.Slice.PartMut.{put_mid}
 use Rattle.std.proofs.lemmas.List.{append_assoc, take_more_set, drop-set-lt, length-set, length-replicate}
 use Rattle.std.proofs.lemmas.Slice.{take-put_mid, drop-put_mid}
 use Rattle.images.specs.declared.format.Format.TheVariants.{Flash}
 use Rattle.images.specs.Image.{page_bytes, size}
-use Rattle.images.specs.Written.{written}
-use Rattle.images.specs.Fresh.{blank, WritesBlank}
+use Rattle.images.specs.Fresh.{WritesBlank}
 use Rattle.images.proofs.Mids.{mid_length}
 use Rattle.images.proofs.Blank.{blank_bytes}
 

@@ -1,7 +1,7 @@
-use Rattle.std.proofs.Common.{subst, ◌∙◌, ap₂}
+use Rattle.std.proofs.Common.{◌∙◌, ap₂}
 use Rattle.images.specs.declared.format.Format.TheVariants.{Flash}
 use Rattle.images.specs.Written.{written}
-use Rattle.images.specs.Fresh.{blank, WritesBlank}
+use Rattle.images.specs.Fresh.{blank}
 use Rattle.images.proofs.Blank.{fresh_image}
 use Rattle.images.proofs.fresh.write_fresh.Goals as goal
 

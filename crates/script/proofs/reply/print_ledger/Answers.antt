@@ -1,4 +1,3 @@
-use Rattle.std.proofs.Common.{◌++◌}
 use Rattle.std.specs.Prelude.{codes, decimal}
 use Rattle.script.specs.Replies.{rate_shown}
 use Rattle.script.proofs.reply.print_ledger.Goals as goal

@@ -1,4 +1,3 @@
-use Rattle.std.proofs.Common.{List}
 use Rattle.coset.specs.Codes.{code_of}
 use Rattle.calls.specs.Records.{records}
 use Rattle.store.specs.Keeps.{Keeps, state}

@@ -1,16 +1,14 @@
-use Rattle.std.proofs.Common.{◌≡◌, ℕ, ◌≤◌, ◌++◌, length, take, drop, Some, Result, Ok, sym, ap₂, ◌∙◌, subst, mul-le-mul_right, arith}
+use Rattle.std.proofs.Common.{◌≡◌, ◌≤◌, ◌++◌, length, take, drop, Some, sym, ap₂, ◌∙◌, subst, mul-le-mul_right, arith}
 use Rattle.std.proofs.lemmas.List.{length-take-le}
 use Rattle.std.proofs.lemmas.Result.{err_from_is_err_and}
 use Rattle.cells.specs.Rows.{Served}
-use Rattle.images.specs.declared.fault.ImageFault.{ImageFault}
 use Rattle.images.specs.declared.format.Format.TheVariants.{Flash}
 use Rattle.images.specs.declared.layout.Layout.{Layout}
 use Rattle.images.specs.Image.{page_bytes, size, decoded}
-use Rattle.images.specs.Check.{image_rows, ChecksStep}
+use Rattle.images.specs.Check.{ChecksStep}
 use Rattle.images.specs.Written.{written}
 use Rattle.images.specs.Fresh.{blank, fresh_rows, FreshImage}
 use Rattle.images.proofs.Blank.{fresh_image}
-use Rattle.store.specs.declared.making.MakingFault.{MakingFault}
 use Rattle.store.specs.Making.{MakesAt}
 use Rattle.commands.specs.declared.head.Head.{Head}
 use Rattle.commands.specs.declared.group_word.GroupWord.{GroupWord}
