@@ -52,7 +52,8 @@ impl Layout {
 
     /// Whether its pages can have so many cells; refused by 12.
     pub fn check_width(width: usize) -> Result<(), ImageFault>
-        ensures { ChecksStep (width_bound_rows width) (λ _. (0 < width) × (width ≤ 1024)) result }
+        ensures { ChecksStep (width_bound_rows width)
+            (λ _. (0 < width) × (width ≤ 1024)) result }
     {
         if width == 0 || width > MAX_WIDTH {
             return Err(ImageFault::Width);

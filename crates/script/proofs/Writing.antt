@@ -5,11 +5,11 @@ use Rattle.std.specs.Io.KnownBytes.{Appends}
 use Rattle.std.specs.declared.io.Error.{Error}
 use Rattle.script.specs.declared.printer.Printer.{Printer}
 use Rattle.script.specs.Writing.{WritesBeginning}
-use Rattle.script.specs.Printers.{IsNew, Hands, Prints, Finishes}
+use Rattle.script.specs.Printers.{IsNew, Hands, TakesText, Finishes}
 use Rattle.script.specs.Growing.{appends_both}
 
 module _ {W T : Type 0} (contents : W → Option (List ℕ)) (writer last : W) (before after : Printer W) (text : List ℕ) (r : Result T Error)
-    (new : IsNew writer before) (prints : Prints contents before text after) (finishes : Finishes contents after last r) where
+    (new : IsNew writer before) (prints : TakesText contents before text after) (finishes : Finishes contents after last r) where
   abbrev hands : Hands contents before text after
   hands = prints.hands
 

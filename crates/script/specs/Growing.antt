@@ -6,7 +6,7 @@ use Rattle.std.proofs.lemmas.List.{append-nil}
 use Rattle.std.specs.Io.KnownBytes.{Keeps, Appends}
 use Rattle.std.specs.declared.io.Error.{Error}
 use Rattle.script.specs.declared.printer.Printer.{Printer}
-use Rattle.script.specs.Printers.{Hands, Prints}
+use Rattle.script.specs.Printers.{Hands, TakesText}
 
 pub appends_both : (a b c : Option (List ℕ)) (xs ys : List ℕ) → Appends a b xs → Appends b c ys → Appends a c (xs ++ ys)
 appends_both None b c xs ys first second = tt
@@ -50,12 +50,12 @@ module _ {W : Type 0} (contents : W → Option (List ℕ)) where
         appends = subst (λ (p : Printer W). Appends (contents a.writer) (contents p.writer) first.written) (sym same) first.appends;
       }
 
-  pub prints_joined :
-      (a b c : Printer W) (xs ys : List ℕ) → Prints contents a xs b → Prints contents b ys c → Prints contents a (xs ++ ys) c
+  pub texts_joined :
+      (a b c : Printer W) (xs ys : List ℕ) → TakesText contents a xs b → TakesText contents b ys c → TakesText contents a (xs ++ ys) c
   unfolding hands_both hands_none
-  prints_joined a b c xs ys first second = go b.fault refl
+  texts_joined a b c xs ys first second = go b.fault refl
     where
-      go : (f : Option Error) → b.fault ≡ f → Prints contents a (xs ++ ys) c
+      go : (f : Option Error) → b.fault ≡ f → TakesText contents a (xs ++ ys) c
       go None going =
           let before = first.going going in
           record {

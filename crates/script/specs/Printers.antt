@@ -21,7 +21,7 @@ pub record Hands {W : Type 0} (contents : W → Option (List ℕ)) (before : Pri
 
 -- A printer took a text. As long as no write has failed, it has collected what is not written; once one has failed,
 -- nothing more is written.
-pub record Prints {W : Type 0} (contents : W → Option (List ℕ)) (before : Printer W) (text : List ℕ) (after : Printer W) : Type 0 where
+pub record TakesText {W : Type 0} (contents : W → Option (List ℕ)) (before : Printer W) (text : List ℕ) (after : Printer W) : Type 0 where
   pub hands : Hands contents before text after
   pub going : after.fault ≡ None → (before.fault ≡ None) × (hands.left ≡ after.pending.items)
   pub failed : (before.fault ≡ None → ⊥) → after ≡ before

@@ -95,7 +95,8 @@ fn replied<F: FnOnce(u32) -> Reply>(
     reply: F,
 ) -> Result<Reply, ScriptFault>
     requires { F.IsAlwaysCallable reply }
-    ensures { MatchResult answer (λ v. IsOkAnd result (F.post reply v)) (λ f. result ≡ Err (fault_of_call place f)) }
+    ensures { MatchResult answer (λ v. IsOkAnd result (F.post reply v))
+        (λ f. result ≡ Err (fault_of_call place f)) }
 {
     let value = answer.located_at(place)?;
     Ok(reply(value))

@@ -63,12 +63,12 @@ impl<W: io::Write> Printer<W> {
 }
 
 impl<W: io::Write> Output for Printer<W> {
-    ghost use Rattle.script.specs.Printers.{Prints};
-    ghost use Rattle.script.specs.Growing.{prints_joined};
+    ghost use Rattle.script.specs.Printers.{TakesText};
+    ghost use Rattle.script.specs.Growing.{texts_joined};
 
-    ghost takes = { Prints W.contents };
+    ghost takes = { TakesText W.contents };
 
-    ghost joins = { prints_joined W.contents };
+    ghost joins = { texts_joined W.contents };
 
     fn text(&mut self, text: &[u8]) {
         if self.fault.is_none() {

@@ -80,8 +80,9 @@ fn open_store<O: Output>(
 // Makes a store over a good image, and answers the lines with it.
 fn answer_image<O: Output>(code: Code<GroupWord>, image: &mut [u8], lines: Lines, out: &mut O)
     requires { Served (image_rows Flash image.old) }
-    ensures { Replied O.Output out.old out.new
-        (AnsweredOver (coset_code (word_group code.group) code.cells) (lines_left lines.entry) image.old image.new) }
+    ensures { let c = coset_code (word_group code.group) code.cells in
+        Replied O.Output out.old out.new
+        (AnsweredOver c (lines_left lines.entry) image.old image.new) }
 {
     let mut part = FlashPart::over(image);
     answer_rest(code, &mut part, lines, out);
