@@ -7,7 +7,7 @@ use Rattle.images.specs.declared.fault.ImageFault.{ImageFault}
 use Rattle.images.specs.declared.fault.ImageFault.TheVariants.{Short, Pages, Width, Trailing, Stray, Wear}
 use Rattle.images.specs.declared.format.Format.TheVariants.{Flash}
 use Rattle.images.specs.Faults.{image_number}
-use Rattle.images.specs.Image.{size}
+use Rattle.images.specs.Image.{size, decoded}
 use Rattle.images.specs.Check.{image_rows, ChecksStep}
 use Rattle.images.specs.Written.{written}
 use Rattle.images.specs.Fresh.{blank as fresh_cells, fresh_rows}
@@ -129,14 +129,15 @@ module _ (h : Head GroupWord Number) where
 
 -- the image that is left in the first of the bytes
 pub image_left :
-    (n : ℕ) (xs zs ys : List ℕ) (m : Meaning) → length ys ≡ n → ys ≡ written Flash m → Served (image_rows Flash ys) → drop n zs ≡ drop n xs →
+    (n : ℕ) (xs zs ys : List ℕ) (m : Meaning) → length ys ≡ n → ys ≡ written Flash m → decoded Flash ys ≡ m → Served (image_rows Flash ys) → drop n zs ≡ drop n xs →
     LeavesImage n m (lent xs (ys ++ drop n zs) (Some n))
-image_left n xs zs ys m long image good others =
+image_left n xs zs ys m long image reads good others =
     record {
       size = refl;
       image = take_at ys (drop n zs) n long ∙ image;
       long = ap length (sym image) ∙ long;
       good = subst (λ bytes. Served (image_rows Flash bytes)) image good;
+      reads = ap (decoded Flash) (sym image) ∙ reads;
       others = drop_at ys (drop n zs) n long ∙ others;
     }
 

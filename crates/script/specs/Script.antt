@@ -6,7 +6,7 @@ use Rattle.group.specs.Group.{unusable}
 use Rattle.cells.specs.Cells.{Cells, Alike}
 use Rattle.cells.specs.Rows.{Served}
 use Rattle.images.specs.declared.format.Format.TheVariants.{Flash}
-use Rattle.images.specs.Image.{size}
+use Rattle.images.specs.Image.{size, decoded}
 use Rattle.images.specs.Check.{image_rows}
 use Rattle.images.specs.Written.{written}
 use Rattle.images.specs.Fresh.{blank as fresh_cells}
@@ -62,12 +62,14 @@ pub record NoImage (l : Lent) : Type 0 where
   pub none : l.left ≡ None
   pub bytes : l.after ≡ l.before
 
--- The first n bytes are the image of these cells, which the check accepts; the bytes after it are as they were.
+-- The first n bytes are the image of these cells: they are its writing-out, the check accepts it, and it is read as these
+-- cells. The bytes after it are as they were.
 pub record LeavesImage (n : ℕ) (m : Cells) (l : Lent) : Type 0 where
   pub size : l.left ≡ Some n
   pub image : take n l.after ≡ written Flash m
   pub long : length (written Flash m) ≡ n
   pub good : Served (image_rows Flash (written Flash m))
+  pub reads : decoded Flash (written Flash m) ≡ m
   pub others : drop n l.after ≡ drop n l.before
 
 -- The heading is accepted: a store over a fresh part is made, and the lines after it make calls that keep the whole

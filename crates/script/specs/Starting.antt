@@ -27,6 +27,7 @@ pub record AnsweredOver (c : Code) (lines : List (List ℕ × ℕ)) (before afte
   pub last : State
   pub answered : Answered c (state_of (decoded Flash before) blank) lines out last
   pub image : after ≡ written Flash last.cells
+  pub reads : decoded Flash after ≡ last.cells
   pub good : Served (image_rows Flash after)
 
 -- A heading at line k makes a store, which answers the lines after it; or it is refused, and then nothing is printed and

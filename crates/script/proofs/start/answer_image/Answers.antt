@@ -42,6 +42,7 @@ returns g c =
         last = state_of (part_cells Flash part'.layout ys) printed.0;
         answered = answered;
         image = accepted Flash ys bytes still.0 ∙ ap (written Flash) (sym after);
+        reads = sym after;
         good = still.0;
       };
       takes = printed.1.takes;

@@ -96,7 +96,7 @@ returns g c =
     let whole = c.write_blank-size.array_long in
     let within : n ≤ length zs = omega arith in
     let long : length ys ≡ n = c.answer_image.auto.image ∙ length-take-le n zs within in
-    let left = image_left n c.args.image.now zs ys over.last.cells long over.image over.good wrote.others in
+    let left = image_left n c.args.image.now zs ys over.last.cells long over.image over.reads over.good wrote.others in
     record {
       replies = answered.replies;
       satisfies =
