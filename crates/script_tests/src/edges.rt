@@ -1,5 +1,5 @@
-// The table of edges, row by row.
-// A line that is no head, and the second head, stand at line 2.
+//! The table of edges, row by row.
+//! A line that is no head, and the second head, stand at line 2.
 use crate::scripts::*;
 use std::test::Fail;
 

@@ -1,5 +1,5 @@
-// Heads: their group words, their words, and what a fresh part and a making refuse.
-// The columns are those of the words, from 1.
+//! Heads: their group words, their words, and what a fresh part and a making refuse.
+//! The columns are those of the words, from 1.
 use crate::scripts::*;
 use std::alloc::Global;
 use std::process::Abort;

@@ -1,5 +1,5 @@
-// Lines of 80 and 81 bytes, and scripts of 65,535 and 65,536 bytes.
-// Each is some bytes, filled up with one byte to a length.
+//! Lines of 80 and 81 bytes, and scripts of 65,535 and 65,536 bytes.
+//! Each is some bytes, filled up with one byte to a length.
 use crate::scripts::*;
 use std::alloc::{AllocError, Global};
 use std::test::Fail;
@@ -86,7 +86,7 @@ fn longest_scripts(rt: HostRuntime) -> Result<(), Fail> {
     )
 }
 
-fn filled(heap: Global, start: &[u8], fill: u8, length: usize) -> Result<Vec<u8>, AllocError> {
+pub fn filled(heap: Global, start: &[u8], fill: u8, length: usize) -> Result<Vec<u8>, AllocError> {
     let mut bytes = Vec::new(heap);
     bytes.extend_from_slice(start)?;
     bytes.resize(length, fill)?;

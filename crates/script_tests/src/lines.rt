@@ -1,5 +1,5 @@
-// Lines after the head: their first bytes, their words, and the calls on a store of two empty records.
-// None of them marks a cell.
+//! Lines after the head: their first bytes, their words, and the calls on a store of two empty records.
+//! None of them marks a cell.
 use crate::scripts::*;
 use std::test::Fail;
 

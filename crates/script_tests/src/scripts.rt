@@ -1,13 +1,21 @@
-// What the tests ask of a script: tables of scripts, or of single lines, with the text that each prints.
-// A failure names the table, and the place in it, from 0. The checks take the runtime, the heap and the table's name:
-// a struct of the three would be made for each table.
-use script::script::run_script;
+//! What the tests ask of a script: tables of scripts, or of single lines, with the text that each prints.
+//! A failure names the table, and the place in it, from 0. The checks take the runtime, the heap and the table's name:
+//! a struct of the three would be made for each table.
+use images::flash::MAX_IMAGE;
+use script::script::print_script;
 use std::alloc::{AllocError, Global};
 use std::process::Abort;
 use std::test::Fail;
 
 // A script or a line, and what it prints.
 pub type Case<'a> = (&'a [u8], &'a str);
+
+// What a script prints. A fault of the writer, which is only a want of memory, fails the test.
+pub fn printed(heap: Global, script: &[u8]) -> Result<String, Fail> {
+    let outcome = print_script(script, &mut [0; MAX_IMAGE], Vec::new(heap));
+    outcome.written?;
+    Ok(String::from_utf8(outcome.writer)?)
+}
 
 // Each script prints exactly the text beside it.
 pub fn check_scripts(
@@ -18,7 +26,7 @@ pub fn check_scripts(
 ) -> Result<(), Fail> {
     for (i, (script, expected)) in cases.iter().enumerate() {
         assert_eq!(rt;
-            run_script(heap, script)?.as_str(),
+            printed(heap, script)?.as_str(),
             *expected,
             "{table}: script {i}"
         );
@@ -87,7 +95,7 @@ impl Place<'_> {
         } = self;
         let script = joined(heap, before, line, after)?;
         let text = format!(in heap; "{printed_before}{expected}{printed_after}")?;
-        assert_eq!(rt; run_script(heap, &script)?, text, "{table}: {name} {i}");
+        assert_eq!(rt; printed(heap, &script)?, text, "{table}: {name} {i}");
         Ok(())
     }
 }

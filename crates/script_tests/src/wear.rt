@@ -1,11 +1,11 @@
-// A page that wears out: in Z3 with two cells to a record, a step from one label to the other is always full.
-// So each line renews, until the wear count is 10,000.
-use script::script::run_script;
+//! A page that wears out: in Z3 with two cells to a record, a step from one label to the other is always full.
+//! So each line renews, until the wear count is 10,000.
+use crate::scripts::printed;
 use std::alloc::{AllocError, Global};
 use std::test::Fail;
 
 // A head, a put, and 10,001 lines that ask for a renewal.
-fn wearing_script(heap: Global) -> Result<Vec<u8>, AllocError> {
+pub fn wearing_script(heap: Global) -> Result<Vec<u8>, AllocError> {
     let mut script = Vec::new(heap);
     script.extend_from_slice(b"H Z3 2 1 2\nP 0 1\n")?;
     script.extend_from_slice(&b"S 0 2\nS 0 1\n".repeat(heap, 5000)?)?;
@@ -14,7 +14,7 @@ fn wearing_script(heap: Global) -> Result<Vec<u8>, AllocError> {
 }
 
 // Its text: each renewal marks one cell, and the last one meets the worn page.
-fn wearing_text(heap: Global) -> Result<String, AllocError> {
+pub fn wearing_text(heap: Global) -> Result<String, AllocError> {
     let mut text = String::from_str(heap, "M 1\nW 1\n")?;
     text.push_str(&"E 1\n".repeat(heap, 10000)?)?;
     text.push_str("X 22 D 10003 1\nV 1\nN 1 10000 10001 0\n")?;
@@ -25,6 +25,6 @@ fn wearing_text(heap: Global) -> Result<String, AllocError> {
 fn a_worn_page_is_named_in_the_script(rt: HostRuntime) -> Result<(), Fail> {
     let heap = rt.alloc();
     let script = wearing_script(heap)?;
-    assert_eq!(rt; run_script(heap, &script)?, wearing_text(heap)?);
+    assert_eq!(rt; printed(heap, &script)?, wearing_text(heap)?);
     Ok(())
 }

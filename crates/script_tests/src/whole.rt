@@ -1,13 +1,17 @@
-// Whole scripts: what is printed of calls that follow each other.
-// Every put and renewal of them has one plan, so all that they print is fixed.
+//! Whole scripts: what is printed of calls that follow each other.
+//! Every put and renewal of them has one plan, so all that they print is fixed.
 use crate::scripts::*;
 use std::test::Fail;
 
 // The sample script, without the end of its last line.
-const SAMPLE: &[u8] = b"H X2 3 1 6\nP 0 1\nP 0 0\nP 1 2\nP 0 3\nR 1 3\nS 0 3\nG 1\nG 2\nL";
+pub const SAMPLE: &[u8] = b"H X2 3 1 6\nP 0 1\nP 0 0\nP 1 2\nP 0 3\nR 1 3\nS 0 3\nG 1\nG 2\nL";
 
-const SAMPLE_PRINTS: &str =
+pub const SAMPLE_PRINTS: &str =
     "M 2\nW 1\nW 2\nW 1\nX 42 S 5 1\nX 43 S 6 1\nE 2\nV 2\nX 40 S 9 3\nN 3 1 6 300\n";
+
+// A script that renews in the second of its two pages.
+pub const RENEWAL_IN_PAGE_1: &[u8] =
+    b"H X2 3 2 6\nP 2 1\nP 2 0\nP 3 3\nP 0 2\nS 2 3\nG 0\nG 1\nG 2\nG 3\nP 4 0\nL";
 
 const COURSES: &[Case] = &[
     // empty lines are counted
@@ -45,9 +49,8 @@ const COURSES: &[Case] = &[
         b"H Z7 6 1 6\nP 0 4\nP 0 2\nP 0 1\nP 0 0\nL",
         "M 1\nW 1\nW 1\nW 1\nW 3\nN 4 0 6 -\n",
     ),
-    // a renewal in the second of two pages
     (
-        b"H X2 3 2 6\nP 2 1\nP 2 0\nP 3 3\nP 0 2\nS 2 3\nG 0\nG 1\nG 2\nG 3\nP 4 0\nL",
+        RENEWAL_IN_PAGE_1,
         "M 4\nW 1\nW 2\nW 1\nW 1\nE 2\nV 2\nV 0\nV 3\nV 3\nX 40 S 11 3\nN 4 1 7 400\n",
     ),
     // five changes and eight renewals
