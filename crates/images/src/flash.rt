@@ -21,6 +21,7 @@ pub const LIMIT: u32 = 10_000;
 /// The bytes of the largest flash image, of 64 pages of 1,024 cells.
 pub const MAX_IMAGE: usize = 8_451;
 
+/// The kind of a flash part: its images have wear counts.
 #[derive(Clone, Copy)]
 pub struct Flash;
 
@@ -30,6 +31,7 @@ impl Kind for Flash {
     const FORMAT: Format = Format::Flash;
 }
 
+/// A flash part over an image that is lent to it.
 pub type FlashPart<'a> = Part<'a, Flash>;
 
 impl Erasable for Part<'_, Flash> {

@@ -24,7 +24,7 @@ fn main(rt: HostRuntime) -> io::Result<()> {
     let mut image = [0; MAX_IMAGE];
     let outcome = print_script(script.as_slice(), &mut image, rt.stdout());
     // The image is there whether or not its replies could be written, so it is saved before a fault of these is answered.
-    if let (Some(file), Some(size)) = (file, outcome.image) {
+    if let (Some(file), Some(size)) = (file, outcome.size) {
         fs::write(&rt, file, &image[..size])?;
     }
     outcome.written

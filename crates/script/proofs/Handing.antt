@@ -17,7 +17,7 @@ module _ {W : Type 0} (contents : W → Option (List ℕ)) (before after : Print
       record {
         hands = record {
           written = [];
-          left = before.pending.items ++ text;
+          unwritten = before.pending.items ++ text;
           whole = refl;
           appends = rw same (appends_same (contents before.writer));
         };
@@ -33,8 +33,8 @@ module _ {W : Type 0} (contents : W → Option (List ℕ)) (before after : Print
       record {
         hands = record {
           written = w.written;
-          left = w.left ++ text;
-          whole = ap (λ l. l ++ text) w.whole ∙ append_assoc w.written w.left text;
+          unwritten = w.unwritten ++ text;
+          whole = ap (λ l. l ++ text) w.whole ∙ append_assoc w.written w.unwritten text;
           appends = w.appends;
         };
         collected = tt;
@@ -43,16 +43,16 @@ module _ {W : Type 0} (contents : W → Option (List ℕ)) (before after : Print
 
   -- it got all of that, and of the text a beginning
   module _ {S T F : Type 0} (between : W) (r : Result S F) (q : Result T F) (first : WritesBeginning (contents before.writer) (contents between) before.pending.items r)
-      (all : first.left ≡ []) (second : WritesBeginning (contents between) (contents after.writer) text q) where
+      (all : first.unwritten ≡ []) (second : WritesBeginning (contents between) (contents after.writer) text q) where
     pub collects_second : after.pending.items ≡ [] → Collects contents before text after q
     collects_second empty =
         record {
           hands = record {
             written = first.written ++ second.written;
-            left = second.left;
+            unwritten = second.unwritten;
             whole =
                 ap₂ (λ a b. a ++ b) (first.whole ∙ ap (λ l. first.written ++ l) all ∙ append-nil first.written) second.whole
-                ∙ sym (append_assoc first.written second.written second.left);
+                ∙ sym (append_assoc first.written second.written second.unwritten);
             appends =
                 appends_both (contents before.writer) (contents between) (contents after.writer) first.written second.written first.appends second.appends;
           };

@@ -13,7 +13,7 @@ module _ {W T : Type 0} (contents : W → Option (List ℕ)) (writer last : W) (
   abbrev hands : Hands contents before text after
   hands = prints.hands
 
-  whole : text ≡ hands.written ++ hands.left
+  whole : text ≡ hands.written ++ hands.unwritten
   whole = ap (λ l. l ++ text) (sym new.nothing) ∙ hands.whole
 
   begun : Appends (contents writer) (contents after.writer) hands.written
@@ -27,9 +27,9 @@ module _ {W T : Type 0} (contents : W → Option (List ℕ)) (writer last : W) (
           let w = finishes.0 in
           record {
             written = hands.written ++ w.written;
-            left = w.left;
+            unwritten = w.unwritten;
             whole =
-                whole ∙ ap (λ l. hands.written ++ l) ((prints.going going).1 ∙ w.whole) ∙ sym (append_assoc hands.written w.written w.left);
+                whole ∙ ap (λ l. hands.written ++ l) ((prints.going going).1 ∙ w.whole) ∙ sym (append_assoc hands.written w.written w.unwritten);
             appends = appends_both (contents writer) (contents after.writer) (contents last) hands.written w.written begun w.appends;
             all = w.all;
           }
@@ -37,8 +37,8 @@ module _ {W T : Type 0} (contents : W → Option (List ℕ)) (writer last : W) (
           let stopped = finishes.1 e fails in
           record {
             written = hands.written;
-            left = hands.left;
+            unwritten = hands.unwritten;
             whole = whole;
             appends = subst (λ w. Appends (contents writer) (contents w) hands.written) (sym stopped.0) begun;
-            all = subst (λ q. OnOk q (hands.left ≡ [])) (sym stopped.1) tt;
+            all = subst (λ q. OnOk q (hands.unwritten ≡ [])) (sym stopped.1) tt;
           }

@@ -25,28 +25,28 @@ appends_same (Some xs) = sym (append-nil xs)
 
 module _ {W : Type 0} (contents : W → Option (List ℕ)) where
   hands_both :
-      (a b c : Printer W) (xs ys : List ℕ) (first : Hands contents a xs b) (second : Hands contents b ys c) → first.left ≡ b.pending.items →
+      (a b c : Printer W) (xs ys : List ℕ) (first : Hands contents a xs b) (second : Hands contents b ys c) → first.unwritten ≡ b.pending.items →
       Hands contents a (xs ++ ys) c
   hands_both a b c xs ys first second rest =
       record {
         written = first.written ++ second.written;
-        left = second.left;
+        unwritten = second.unwritten;
         whole =
             sym (append_assoc a.pending.items xs ys) ∙ ap (λ l. l ++ ys) (first.whole ∙ ap (λ l. first.written ++ l) rest)
             ∙ append_assoc first.written b.pending.items ys ∙ ap (λ l. first.written ++ l) second.whole
-            ∙ sym (append_assoc first.written second.written second.left);
+            ∙ sym (append_assoc first.written second.written second.unwritten);
         appends = appends_both (contents a.writer) (contents b.writer) (contents c.writer) first.written second.written first.appends second.appends;
       }
 
-  -- a text after a fault is left whole
+  -- a text after a fault is not written at all
   hands_none :
       (a b c : Printer W) (xs ys : List ℕ) (first : Hands contents a xs b) → c ≡ b → Hands contents a (xs ++ ys) c
   hands_none a b c xs ys first same =
       record {
         written = first.written;
-        left = first.left ++ ys;
+        unwritten = first.unwritten ++ ys;
         whole =
-            sym (append_assoc a.pending.items xs ys) ∙ ap (λ l. l ++ ys) first.whole ∙ append_assoc first.written first.left ys;
+            sym (append_assoc a.pending.items xs ys) ∙ ap (λ l. l ++ ys) first.whole ∙ append_assoc first.written first.unwritten ys;
         appends = subst (λ (p : Printer W). Appends (contents a.writer) (contents p.writer) first.written) (sym same) first.appends;
       }
 

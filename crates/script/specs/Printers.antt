@@ -15,21 +15,21 @@ pub record IsNew {W : Type 0} (writer : W) (p : Printer W) : Type 0 where
 -- Of what a printer had collected and a text after it, its writer got a beginning.
 pub record Hands {W : Type 0} (contents : W → Option (List ℕ)) (before : Printer W) (text : List ℕ) (after : Printer W) : Type 0 where
   pub written : List ℕ
-  pub left : List ℕ
-  pub whole : before.pending.items ++ text ≡ written ++ left
+  pub unwritten : List ℕ
+  pub whole : before.pending.items ++ text ≡ written ++ unwritten
   pub appends : Appends (contents before.writer) (contents after.writer) written
 
 -- A printer took a text. As long as no write has failed, it has collected what is not written; once one has failed,
 -- nothing more is written.
 pub record TakesText {W : Type 0} (contents : W → Option (List ℕ)) (before : Printer W) (text : List ℕ) (after : Printer W) : Type 0 where
   pub hands : Hands contents before text after
-  pub going : after.fault ≡ None → (before.fault ≡ None) × (hands.left ≡ after.pending.items)
+  pub going : after.fault ≡ None → (before.fault ≡ None) × (hands.unwritten ≡ after.pending.items)
   pub failed : (before.fault ≡ None → ⊥) → after ≡ before
 
 -- A text is collected, or the writer fails.
 pub record Collects {W : Type 0} (contents : W → Option (List ℕ)) (before : Printer W) (text : List ℕ) (after : Printer W) {T E : Type 0} (r : Result T E) : Type 0 where
   pub hands : Hands contents before text after
-  pub collected : OnOk r (hands.left ≡ after.pending.items)
+  pub collected : OnOk r (hands.unwritten ≡ after.pending.items)
   pub fault : after.fault ≡ before.fault
 
 -- What is collected is written at the end, or a beginning of it; after a fault nothing is, and that fault is answered.

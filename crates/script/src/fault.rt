@@ -59,8 +59,11 @@ impl Cause {
 /// A refusal, with its place in the script. Lines and columns are counted from 1.
 #[derive(Clone, Copy, PartialEq, Debug)]
 pub struct ScriptFault {
+    /// What was refused, whole.
     pub cause: Cause,
+    /// The line that was refused; 1 for the script as a whole.
     pub line: usize,
+    /// Where in the line; 1 where the refusal is about no word.
     pub column: usize,
 }
 
@@ -107,8 +110,11 @@ impl From<(usize, Refusal)> for ScriptFault {
 /// Where an order stands: its line, and the columns of its words.
 #[derive(Clone, Copy)]
 pub struct OrderPlace {
+    /// Its line.
     pub line: usize,
+    /// The column of the word for the record.
     pub record: usize,
+    /// The column of the word for the value.
     pub value: usize,
 }
 

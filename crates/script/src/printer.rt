@@ -9,7 +9,7 @@ use std::io;
 // how many bytes are collected at most
 const BLOCK: usize = 4_096;
 
-/// An output over a writer.
+/// An output over a writer. What it has collected is written by `finish`; one that is dropped without it loses that.
 #[derive(Drop)]
 pub struct Printer<W> {
     writer: W,

@@ -36,27 +36,28 @@ pub struct Outcome<W> {
     /// The writer.
     pub writer: W,
     /// How many of the lent bytes are the image, if there is one.
-    pub image: Option<usize>,
-    /// Whether all that was printed is written, or the writer's first fault.
+    pub size: Option<usize>,
+    /// Whether all that was printed is written, or the first fault: the writer's, but for one that says it was interrupted,
+    /// which is tried again; `WriteZero` where it takes no byte; `TimedOut` after 2^64 - 1 tries.
     pub written: io::Result<()>,
 }
 
-/// Runs a script and writes what it prints. Where the writer fails, the script is run to its end all the same and leaves
-/// the same image; the writer then holds a beginning of what was printed.
+/// Runs a script and writes what it prints. Where the writer fails, the script is run to its end all the same and leaves its
+/// image; the writer then holds a beginning of what was printed.
 pub fn print_script<W: io::Write>(
     script: &[u8],
     image: &mut [u8; MAX_IMAGE],
     writer: W,
 ) -> Outcome<W>
     ensures { RepliesWritten (W.contents writer) (W.contents result.writer) result.written
-        (λ replies. Runs script.now replies (lent image.old image.new result.image)) }
+        (λ replies. Runs script.now replies (lent image.old image.new result.size)) }
 {
     let mut printer = Printer::new(writer);
-    let image = run_script(script, image, &mut printer);
+    let size = run_script(script, image, &mut printer);
     let (writer, written) = printer.finish();
     Outcome {
         writer,
-        image,
+        size,
         written,
     }
 }

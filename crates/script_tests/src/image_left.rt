@@ -25,7 +25,7 @@ fn check_left(
     let mut image = [LENT; MAX_IMAGE];
     let outcome = print_script(script, &mut image, Vec::new(heap));
     outcome.written?;
-    let left = outcome.image.and_then(|size| image.get(..size));
+    let left = outcome.size.and_then(|size| image.get(..size));
     assert_eq!(rt; left, expected, "{name}");
     let used = expected.map_or(0, |bytes| bytes.len());
     let kept = image.iter().skip(used).all(|byte| *byte == LENT);

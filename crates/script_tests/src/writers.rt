@@ -30,7 +30,7 @@ impl Course<'_> {
     fn run<W: Write + Drop>(&self, rt: &impl Abort, writer: W) -> Option<ErrorKind> {
         let mut image = [0; MAX_IMAGE];
         let outcome = print_script(self.script, &mut image, writer);
-        let left = outcome.image.and_then(|size| image.get(..size));
+        let left = outcome.size.and_then(|size| image.get(..size));
         assert_eq!(rt; left, Some(self.image));
         outcome.written.err().map(|fault| fault.kind())
     }

@@ -17,7 +17,7 @@ returns-in_err-write_out-2 g c =
     let t = g.W.Write.contents in
     let items : c.as_slice.result.now ≡ c.args.self.now.pending.items = search rules in
     let first : WritesBeginning (t c.args.self.now.writer) (t c.write_out.new.writer) c.args.self.now.pending.items c.write_out.result = rw (← items) c.write_out.ensures in
-    let all : first.left ≡ [] = search rules in
+    let all : first.unwritten ≡ [] = search rules in
     let empty : c.clear.new.self.items ≡ [] = search rules in
     let p = err_from_is_err_and c.from_residual-in_err-write_out-2.result c.from_residual-in_err-write_out-2.ensures.1 in
     rw (p.1, p.2, ← c.in_err-write_out-2.was)
@@ -29,7 +29,7 @@ returns-in_ok-write_out-2 g c =
     let t = g.W.Write.contents in
     let items : c.as_slice.result.now ≡ c.args.self.now.pending.items = search rules in
     let first : WritesBeginning (t c.args.self.now.writer) (t c.write_out.new.writer) c.args.self.now.pending.items c.write_out.result = rw (← items) c.write_out.ensures in
-    let all : first.left ≡ [] = search rules in
+    let all : first.unwritten ≡ [] = search rules in
     let empty : c.clear.new.self.items ≡ [] = search rules in
     rw (← c.in_ok-write_out-2.was)
     (collects_second t c.args.self.now _ c.args.text.now refl c.write_out.new.writer c.write_out.result c.write_out-then-is_err.result first all
