@@ -22,7 +22,7 @@ pub fn write_fresh(
     Ok(write_blank(image, layout))
 }
 
-/// The same of a layout, which is not refused. One of no pages, or of no cells, gives bytes that are no good image.
+/// Writes the image of a layout in the same way; nothing is refused. That of no pages, or of no cells, is no good image.
 // Both casts are proved to lose nothing; a `try_from` would add a refusal that never comes.
 pub fn write_blank(image: &mut [u8; MAX_IMAGE], layout: Layout) -> usize
     ensures { WritesBlank layout.pages layout.width image.old image.new result }

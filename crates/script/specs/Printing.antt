@@ -11,7 +11,8 @@ pub record Replied {O : Type 0} (output : Ghosts O) (before after : O) (P : List
   pub satisfies : P replies
   pub takes : output.takes before (printed replies) after
 
--- There are replies that satisfy P, and a writer got their text, or a beginning of it where a fault is answered.
+-- There are replies that satisfy P, and a writer got their text, or a beginning of it where a fault is answered, as far as
+-- it says what it holds.
 pub record RepliesWritten (before after : Option (List ℕ)) {T E : Type 0} (r : Result T E) (P : List Reply → Type 0) : Type 0 where
   pub replies : List Reply
   pub satisfies : P replies

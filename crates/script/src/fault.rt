@@ -63,7 +63,8 @@ pub struct ScriptFault {
     pub cause: Cause,
     /// The line that was refused; 1 for the script as a whole.
     pub line: usize,
-    /// Where in the line; 1 where the refusal is about no word.
+    /// Where in the line: 81 for a line that is too long, the place after its end for a wrong number of words, the start of
+    /// the word that the refusal is about, or else 1.
     pub column: usize,
 }
 

@@ -1,5 +1,5 @@
 //! Scripts: a head that makes a store over a fresh flash part, and lines that make calls on it.
-//! Whatever the script, it is answered to the end, and its calls keep the whole promise of a store.
+//! Whatever the script, it is answered or refused, and its calls keep the whole promise of a store.
 #![tactic(auto)]
 
 mod answer;

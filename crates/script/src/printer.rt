@@ -1,5 +1,5 @@
 //! A writer as an output. Texts are collected, and handed on in blocks, so that a short reply is no write by itself.
-//! Where a write fails, its fault is kept for the end, and nothing is written any more.
+//! Where a write fails, and was not only interrupted, its fault is kept for the end, and nothing is written any more.
 ghost use Rattle.script.specs.Writing.{WritesBeginning};
 
 use crate::output::Output;
@@ -33,7 +33,9 @@ impl<W: io::Write> Printer<W> {
         }
     }
 
-    /// Writes what is still collected, and gives the writer back. It answers the writer's first fault, if it had any.
+    /// Writes what is still collected, flushes the writer and gives it back. Where a write failed before, it answers that
+    /// fault and leaves the writer as it is; else a fault of these last writes, `WriteZero` where one takes no byte and
+    /// `TimedOut` after 2^64 - 1 of them, or that of the flush.
     pub fn finish(self) -> (W, io::Result<()>)
         ensures { Finishes W.contents self result.0 result.1 }
     {

@@ -1,4 +1,4 @@
-//! A whole script: any bytes are taken, and answered to the end.
+//! A whole script: any bytes are taken, and every line after an accepted head is answered.
 //! The part is an image in bytes that the caller lends, so that no memory is needed and no error is left.
 ghost use Rattle.script.specs.Printing.{Replied, RepliesWritten};
 ghost use Rattle.script.specs.Script.{Runs, lent};
@@ -11,8 +11,9 @@ use images::flash::MAX_IMAGE;
 use std::io;
 
 /// Runs a script: each line is answered, and its reply printed, before the next one is read. The part of the head's store
-/// lies in the first of the lent bytes; it answers how many of them are the image that the last call left, or none where
-/// the script is too long or its head is missing or refused. Then one refusal is printed, and no byte is altered.
+/// lies at the beginning of the lent bytes; it answers how many of them are the image that the last call left, and the
+/// bytes after the image stay as they were. Where the script is too long, or its head is missing or refused, it answers
+/// none: one refusal is printed, and no byte is altered.
 pub fn run_script<O: Output>(
     script: &[u8],
     image: &mut [u8; MAX_IMAGE],
@@ -37,13 +38,14 @@ pub struct Outcome<W> {
     pub writer: W,
     /// How many of the lent bytes are the image, if there is one.
     pub size: Option<usize>,
-    /// Whether all that was printed is written, or the first fault: the writer's, but for one that says it was interrupted,
-    /// which is tried again; `WriteZero` where it takes no byte; `TimedOut` after 2^64 - 1 tries.
+    /// Whether all that was printed is written, or the first fault: that of a write, which is tried again where it says
+    /// that it was interrupted; `WriteZero` where one takes no byte; `TimedOut` after 2^64 - 1 writes of one block; or that
+    /// of the flush at the end.
     pub written: io::Result<()>,
 }
 
-/// Runs a script and writes what it prints. Where the writer fails, the script is run to its end all the same and leaves its
-/// image; the writer then holds a beginning of what was printed.
+/// Runs a script as `run_script` does, and writes what it prints. Where the writer fails, the script is run to its end all
+/// the same; the writer then got a beginning of what was printed.
 pub fn print_script<W: io::Write>(
     script: &[u8],
     image: &mut [u8; MAX_IMAGE],

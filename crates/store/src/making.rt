@@ -40,7 +40,7 @@ pub fn check_making<G: Group, A: CellArray>(code: &Code<G>, array: &A) -> Result
     check_making_at(code, array.width())
 }
 
-/// The same for an array with pages of so many cells, which need not be there yet.
+/// The same for any array with so many cells to a page, before there is such an array.
 pub fn check_making_at<G: Group>(code: &Code<G>, width: usize) -> Result<(), MakingFault>
     ensures { MakesAt (code_of G.Group code.now) width result }
 {
