@@ -32,8 +32,8 @@ pub fn list_flash(
 
 // A report of each page into its place.
 fn report_pages<A: Erasable>(array: &A, reports: &mut [PageReport])
-    requires { length reports.old ≡ (A.CellArray.cells array.now).pages }
-    ensures { reports.new ≡ page_reports (A.CellArray.cells array.now) }
+    requires { length reports.old ≡ (A.cells array.now).pages }
+    ensures { reports.new ≡ page_reports (A.cells array.now) }
 {
     for (page, place) in reports.iter_mut().enumerate() {
         *place = report(array, page);
@@ -41,8 +41,8 @@ fn report_pages<A: Erasable>(array: &A, reports: &mut [PageReport])
 }
 
 fn report<A: Erasable>(array: &A, page: usize) -> PageReport
-    requires { page < (A.CellArray.cells array.now).pages }
-    ensures { result ≡ page_report (A.CellArray.cells array.now) page }
+    requires { page < (A.cells array.now).pages }
+    ensures { result ≡ page_report (A.cells array.now) page }
 {
     let (wear, _) = array.wear(page).unwrap();
     let set = count_set(array, page);
@@ -51,9 +51,8 @@ fn report<A: Erasable>(array: &A, page: usize) -> PageReport
 
 // How many cells of a page are set.
 fn count_set<A: CellArray>(array: &A, page: usize) -> usize
-    requires { page < (A.CellArray.cells array.now).pages }
-    ensures { result ≡ size_below ((A.CellArray.cells array.now).set page)
-        (A.CellArray.cells array.now).width }
+    requires { page < (A.cells array.now).pages }
+    ensures { let m = A.cells array.now in result ≡ size_below (m.set page) m.width }
 {
     (0..array.width())
         .filter(|cell| array.is_set(page, *cell))
