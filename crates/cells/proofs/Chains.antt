@@ -5,6 +5,7 @@ use Rattle.std.proofs.lemmas.List.Sums.{sum_by-cons}
 use Rattle.std.proofs.lemmas.Bool.{cases_eq, eq-eqb, ne_eqb}
 use Rattle.cells.specs.declared.array.CellArray.{Ghosts}
 use Rattle.cells.specs.Cells.{Cells, Shaped, Cell}
+use Rattle.cells.proofs.Alikes.{shaped_itself, shaped_then, cell_back}
 use Rattle.cells.specs.Steps.{Step, Stepped}
 use Rattle.cells.specs.Steps.Step.{Mark, Erase, MarkRefused, EraseRefused}
 use Rattle.cells.specs.Chain.{Chain, Takes, CellsAfter, set_after, set_after_one, is_erase_of}
@@ -41,8 +42,8 @@ chain_through one those view seen (s ∷ ss) a b taken =
 one_shape : (s : Step) (m n : Cells) → Stepped s m n → Shaped m n
 one_shape (Mark q j) m n step = step.1.shape
 one_shape (Erase q) m n step = step.1.shape
-one_shape (MarkRefused q j) m n step = rw step.1 (record { pages = refl; width = refl; limit = refl })
-one_shape (EraseRefused q) m n step = rw step.1 (record { pages = refl; width = refl; limit = refl })
+one_shape (MarkRefused q j) m n step = rw step.1 (shaped_itself m)
+one_shape (EraseRefused q) m n step = rw step.1 (shaped_itself m)
 
 one_set : (s : Step) (m n : Cells) → Stepped s m n → (p i : ℕ) → Cell m p i → n.set p i ≡ set_after_one s p i (m.set p i)
 one_set (Mark q j) m n step p i cell = go (cases_eq q p) (cases_eq j i)
@@ -77,7 +78,7 @@ module _ {A : Type 0} (array : Ghosts A) where
   unfolding set_after
   steps_tell [] a b none =
       rw none
-      (record { shape = record { pages = refl; width = refl; limit = refl }; set = λ p i cell. refl; wear = λ p there. omega arith })
+      (record { shape = shaped_itself _; set = λ p i cell. refl; wear = λ p there. omega arith })
   steps_tell (s ∷ ss) a b taken =
       let m = array.cells a in
       let mid = array.cells taken.0 in
@@ -85,13 +86,9 @@ module _ {A : Type 0} (array : Ghosts A) where
       let shape = one_shape s m mid step in
       let rest = steps_tell ss taken.0 b taken.2 in
       record {
-        shape = record {
-          pages = rest.shape.pages ∙ shape.pages;
-          width = rest.shape.width ∙ shape.width;
-          limit = rest.shape.limit ∙ shape.limit;
-        };
+        shape = shaped_then shape rest.shape;
         set = λ p i cell.
-            rest.set p i (record { page = rw shape.pages cell.page; cell = rw shape.width cell.cell })
+            rest.set p i (cell_back shape cell)
             ∙ ap (set_after ss p i) (one_set s m mid step p i cell);
         wear = λ p there.
             let later = rest.wear p (rw shape.pages there) in

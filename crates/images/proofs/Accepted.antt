@@ -13,7 +13,7 @@ use Rattle.cells.specs.Rows.{Served}
 use Rattle.images.specs.Image.{count_bytes, limit_of, bit, reads, width_at, pages_at, page_bytes, page_at, pages_of, width_of, count_of, wear_of, decoded}
 use Rattle.images.specs.Check.{image_rows, Checks}
 use Rattle.images.specs.Written.{Writable, big_endian_byte, bit_for, page_byte, written, Exact, ReadBack, WrittenOut}
-use Rattle.images.proofs.Tables.{served_not_refused}
+use Rattle.cells.proofs.SameRows.{served_not_refused}
 use Rattle.images.proofs.ByteBits.{byte_of_bits, byte_same, bit_for_read, digits_of}
 use Rattle.images.proofs.Writing.{written_length, written_pages, written_count, written_width_high, written_width_low, written_page}
 use Rattle.images.proofs.Good.{Good, served_good}

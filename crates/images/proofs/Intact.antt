@@ -13,7 +13,7 @@ use Rattle.images.specs.Image.{count_bytes, width_at, page_at, width_of, count_o
 use Rattle.images.specs.Check.{image_rows, Stray, Accepted, Checks, ReadsAs}
 use Rattle.images.specs.Bytes.{BitMarked, PageErased, Finds}
 use Rattle.images.proofs.Offsets.{shown, part_is}
-use Rattle.images.proofs.Tables.{served_not_refused}
+use Rattle.cells.proofs.SameRows.{served_not_refused}
 use Rattle.images.proofs.Good.{Good, served_good, good_served}
 use Rattle.images.proofs.Writes.{bit_written, bit_kept, part_marked, count_same, bit_erased, bit_spared, count_spared}
 

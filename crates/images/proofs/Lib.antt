@@ -13,3 +13,4 @@ pub mod Accepted
 pub mod Intact
 pub mod Blank
 pub mod Laying
+pub mod OneImage

@@ -24,9 +24,3 @@ refused_first (r ∷ rs) ss k (inr later) = inr (later.0, refused_first rs ss k 
 pub refused_rest : (rs ss : List Row) (k : ℕ) → Served rs → Refused ss k → Refused (rs ++ ss) k
 refused_rest [] ss k a b = b
 refused_rest (r ∷ rs) ss k a b = inr (a.0, refused_rest rs ss k a.1 b)
-
--- what is served is not refused
-pub served_not_refused : (rs : List Row) (k : ℕ) → Served rs → Refused rs k → ⊥
-served_not_refused [] k a b = b
-served_not_refused (r ∷ rs) k a (inl here) = a.0 here.0
-served_not_refused (r ∷ rs) k a (inr later) = served_not_refused rs k a.1 later.1

@@ -4,3 +4,4 @@ pub mod Faults
 pub mod Check
 pub mod Written
 pub mod Fresh
+pub mod OneImage

@@ -9,6 +9,7 @@ pub mod flash;
 pub mod format;
 pub mod fresh;
 pub mod fuse;
+pub mod laws;
 pub mod layout;
 pub mod part;
 mod places;
