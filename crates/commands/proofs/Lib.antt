@@ -4,3 +4,4 @@ pub mod Forms
 pub mod Tables
 pub mod Rewriting
 pub mod ReadBack
+pub mod OneReading

@@ -1,18 +1,20 @@
--- What is written out passes the tables of a line. Assumes nothing.
+-- What is written out has the words that were written, and passes the tables of a line. Assumes nothing.
 use Rattle.std.proofs.Common.{◌≡◌, ℕ, ◌<◌, ◌≤◌, ◌⊎◌, List, [], ◌∷◌, ◌++◌, map, length, Some, None, decimal, Option, sym, refl, ap, ◌∙◌, subst, inl, inr, arith, length-append}
 use Rattle.std.proofs.lemmas.Fmt.{length-decimal-le}
-use Rattle.scan.specs.Pieces.{cut, Lacks}
-use Rattle.scan.proofs.Cutting.{lacks_more, lacks_append, cut_alone, cut_first}
+use Rattle.scan.specs.Pieces.{cut, joined, Lacks}
+use Rattle.scan.proofs.Cutting.{lacks_more, lacks_append, cut_joined}
 use Rattle.scan.proofs.Spelling.{decimal_lacks}
 use Rattle.commands.specs.declared.factor.Factor.{Factor}
 use Rattle.commands.specs.declared.factor.Factor.TheVariants.{Integers, Vectors}
 use Rattle.commands.specs.declared.group_word.GroupWord.{GroupWord}
 use Rattle.commands.specs.declared.group_word.GroupWord.TheVariants.{One, Two}
 use Rattle.commands.specs.declared.command.Command.TheVariants.{Put, Renew, Save, Get, Ledger}
+use Rattle.commands.specs.declared.word.Number.{Number}
+use Rattle.commands.specs.declared.head.Head.{Head}
 use Rattle.commands.specs.PlacedRows.{NotRefused}
 use Rattle.commands.specs.Words.{placed}
 use Rattle.commands.specs.Groups.{factor_spelt, group_spelt, NineDigitFactor, NineDigitGroup}
-use Rattle.commands.specs.Orders.{command_word_count, head_word_count, form_rows, number_row, head_word_rows, line_rows, OrdersPass, HeadingsPass}
+use Rattle.commands.specs.Orders.{command_word_count, head_word_count, form_rows, number_row, head_word_rows, line_rows, NineDigitHeading, OrdersPass, HeadingsPass}
 use Rattle.commands.proofs.Tables.{accepted_both}
 
 few_digits : (n : ℕ) → n < 1000000000 → length (decimal n) ≤ 9
@@ -20,6 +22,16 @@ few_digits n h = length-decimal-le 9 n (omega arith) h (omega arith)
 
 no_space : (n : ℕ) → n < 1000000000 → Lacks 32 (decimal n)
 no_space n h = decimal_lacks 32 n (omega arith) (λ d. omega arith)
+
+-- the words of one number, or of two
+pub one_word : (k : ℕ) → k < 1000000000 → cut 32 (decimal k) ≡ decimal k ∷ []
+unfolding joined
+one_word k small = cut_joined 32 (decimal k) [] (no_space k small, tt)
+
+pub two_words :
+    (k x : ℕ) → k < 1000000000 → x < 1000000000 → cut 32 (decimal k ++ (32 ∷ decimal x)) ≡ decimal k ∷ (decimal x ∷ [])
+unfolding joined
+two_words k x small small' = cut_joined 32 (decimal k) (decimal x ∷ []) (no_space k small, (no_space x small', tt))
 
 -- a line of a command that takes as many words as it has
 form_passes :
@@ -38,7 +50,7 @@ form_passes takes b xs k short knows counts = (
 one_passes : (b k : ℕ) → command_word_count b ≡ Some 1 → k < 1000000000 → NotRefused (line_rows (b ∷ (32 ∷ decimal k)))
 unfolding placed
 one_passes b k knows small =
-    let one = cut_alone 32 (decimal k) (no_space k small) in
+    let one = one_word k small in
     let few = few_digits k small in
     accepted_both (form_rows command_word_count (b ∷ (32 ∷ decimal k))) (map number_row (placed 3 (cut 32 (decimal k))))
     (form_passes command_word_count b (decimal k) 1 (omega arith) knows (ap (λ ps. length (placed 3 ps)) one))
@@ -48,8 +60,7 @@ two_pass : (b k x : ℕ) → command_word_count b ≡ Some 2 → k < 1000000000 
 unfolding placed
 two_pass b k x knows small small' =
     let xs = decimal k ++ (32 ∷ decimal x) in
-    let two : cut 32 (decimal k ++ (32 ∷ decimal x)) ≡ decimal k ∷ (decimal x ∷ []) =
-    cut_first 32 (decimal k) (decimal x) (no_space k small) ∙ ap (λ ps. decimal k ∷ ps) (cut_alone 32 (decimal x) (no_space x small')) in
+    let two = two_words k x small small' in
     let few = few_digits k small in
     let few' = few_digits x small' in
     let long = length-append (decimal k) (32 ∷ decimal x) in
@@ -87,6 +98,19 @@ group_clean (Two p) small =
     let long = length-append (factor_spelt f) (46 ∷ factor_spelt g) in
     (lacks_append 32 (factor_spelt f) (46 ∷ factor_spelt g) one.0 (lacks_more 32 46 (factor_spelt g) (λ e. omega arith) two.0), omega arith)
 
+-- the words of a heading
+pub four_words :
+    (h : Head GroupWord Number) → NineDigitHeading h →
+    cut 32 (group_spelt h.group ++ (32 ∷ (decimal h.n.value ++ (32 ∷ (decimal h.pages.value ++ (32 ∷ decimal h.width.value))))))
+    ≡ group_spelt h.group ∷ (decimal h.n.value ∷ (decimal h.pages.value ∷ (decimal h.width.value ∷ [])))
+unfolding joined
+four_words h small =
+    let n = no_space h.n.value small.n in
+    let p = no_space h.pages.value small.pages in
+    let c = no_space h.width.value small.width in
+    cut_joined 32 (group_spelt h.group) (decimal h.n.value ∷ (decimal h.pages.value ∷ (decimal h.width.value ∷ [])))
+    ((group_clean h.group small.group).0, (n, (p, (c, tt))))
+
 pub headings_pass : HeadingsPass
 unfolding placed
 headings_pass h small =
@@ -94,14 +118,9 @@ headings_pass h small =
     let n = decimal h.n.value in
     let p = decimal h.pages.value in
     let c = decimal h.width.value in
-    let clean = group_clean h.group small.group in
     let xs = g ++ (32 ∷ (n ++ (32 ∷ (p ++ (32 ∷ c))))) in
-    let words : cut 32 (g ++ (32 ∷ (n ++ (32 ∷ (p ++ (32 ∷ c)))))) ≡ g ∷ (n ∷ (p ∷ (c ∷ []))) =
-    cut_first 32 g (n ++ (32 ∷ (p ++ (32 ∷ c)))) clean.0
-    ∙ ap (λ ps. g ∷ ps) (cut_first 32 n (p ++ (32 ∷ c)) (no_space h.n.value small.n))
-    ∙ ap (λ ps. g ∷ (n ∷ ps)) (cut_first 32 p c (no_space h.pages.value small.pages))
-    ∙ ap (λ ps. g ∷ (n ∷ (p ∷ ps))) (cut_alone 32 c (no_space h.width.value small.width)) in
-    let a = clean.1 in
+    let words = four_words h small in
+    let a = (group_clean h.group small.group).1 in
     let b = few_digits h.n.value small.n in
     let d = few_digits h.pages.value small.pages in
     let e = few_digits h.width.value small.width in

@@ -1,5 +1,5 @@
 -- A line by its letter and its words: the words joined by spaces are the line. Assumes nothing.
-use Rattle.std.proofs.Common.{◌≡◌, ℕ, ◌+◌, ◌⊎◌, List, [], ◌∷◌, ◌++◌, map, length, decimal, Option, sym, refl, ap, ◌∙◌, subst, ap₂, inl, inr, arith}
+use Rattle.std.proofs.Common.{◌≡◌, ℕ, ◌+◌, ◌<◌, ◌⊎◌, List, [], ◌∷◌, ◌++◌, map, length, decimal, Option, sym, refl, ap, ◌∙◌, subst, ap₂, inl, inr, arith}
 use Rattle.std.proofs.lemmas.Bool.{cases_eq}
 use Rattle.scan.specs.Pieces.{cut, joined}
 use Rattle.scan.proofs.Cutting.{joined_cut, cut_some}
@@ -103,6 +103,7 @@ heading_is takes l h t accepted has g n p c =
         pages = p.1 ∙ two ∙ ap₂ (λ x xs. x + length xs + 1) (sym n.1) n.0.1;
         width = c.1 ∙ three ∙ ap₂ (λ x xs. x + length xs + 1) (sym p.1) p.0.1;
       },
+      record { group = g.0; n = n.0.0; pages = p.0.0; width = c.0.0 },
     )
 
 has_words : (l : List ℕ) (b : ℕ) (ws : List (List ℕ × ℕ)) → Has l b ws → line_words l ≡ ws
@@ -129,17 +130,18 @@ module _ (l : List ℕ) (b : ℕ) (form : NotRefused (form_rows command_word_cou
   pub two_ordered :
       (v w : Word) (m n : Number) → Has l b (word_of v ∷ (word_of w ∷ [])) → NotRefused (number_row (word_of v) ∷ []) × ReadsNumber v m →
       NotRefused (number_row (word_of w) ∷ []) × ReadsNumber w n →
-      NotRefused (line_rows l) × (l ≡ b ∷ (32 ∷ (decimal m.value ++ (32 ∷ decimal n.value)))) × ColumnsTwo m n
+      NotRefused (line_rows l)
+      × ((l ≡ b ∷ (32 ∷ (decimal m.value ++ (32 ∷ decimal n.value)))) × ColumnsTwo m n × ((m.value < 1000000000) × (n.value < 1000000000)))
   two_ordered v w m n has first second =
       let written = two_numbers command_word_count b l v w m n form has first.1 second.1 in
-      (line_accepted l b (word_of v ∷ (word_of w ∷ [])) has form (first.0.0, (second.0.0, tt)), written.0, written.1)
+      (line_accepted l b (word_of v ∷ (word_of w ∷ [])) has form (first.0.0, (second.0.0, tt)), (written.0, written.1, (first.1.0.0, second.1.0.0)))
 
   pub one_ordered :
       (w : Word) (n : Number) → Has l b (word_of w ∷ []) → NotRefused (number_row (word_of w) ∷ []) × ReadsNumber w n →
-      NotRefused (line_rows l) × (l ≡ b ∷ (32 ∷ decimal n.value)) × (n.column ≡ 3)
+      NotRefused (line_rows l) × ((l ≡ b ∷ (32 ∷ decimal n.value)) × (n.column ≡ 3) × (n.value < 1000000000))
   one_ordered w n has only =
       let written = one_number command_word_count b l w n form has only.1 in
-      (line_accepted l b (word_of w ∷ []) has form (only.0.0, tt), written.0, written.1)
+      (line_accepted l b (word_of w ∷ []) has form (only.0.0, tt), (written.0, written.1, only.1.0.0))
 
   pub none_ordered : Has l b [] → NotRefused (line_rows l) × (l ≡ b ∷ [])
   none_ordered has = (line_accepted l b [] has form tt, letter_is command_word_count b l has)

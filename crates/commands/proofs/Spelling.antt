@@ -5,13 +5,13 @@ use Rattle.commands.specs.declared.factor.Factor.TheVariants.{Integers, Vectors}
 use Rattle.commands.specs.declared.group_word.GroupWord.{GroupWord}
 use Rattle.commands.specs.declared.group_word.GroupWord.TheVariants.{One, Two}
 use Rattle.group.specs.declared.product.Product.{Product}
-use Rattle.scan.specs.Pieces.{cut, joined, pieces_left, Lacks}
+use Rattle.scan.specs.Pieces.{cut, joined, Lacks}
 use Rattle.scan.proofs.Cutting.{lacks_more, cut_alone, cut_first, joined_cut}
 use Rattle.scan.proofs.Spelling.{decimal_lacks}
 use Rattle.commands.specs.Groups.{factor_spelt, group_spelt, NineDigitFactor, NineDigitGroup, SpellsFactor, SpellsGroup}
 
 -- the pieces of a group word are the spellings of its factors
-abbrev factor_pieces : GroupWord → List (List ℕ)
+abbrev pub factor_pieces : GroupWord → List (List ℕ)
 factor_pieces (One f) = factor_spelt f ∷ []
 factor_pieces (Two p) = factor_spelt p.left ∷ (factor_spelt p.right ∷ [])
 
@@ -19,7 +19,7 @@ factor_lacks : (f : Factor) → NineDigitFactor f → Lacks 46 (factor_spelt f)
 factor_lacks (Integers g) small = lacks_more 46 90 (decimal g.modulus) (λ e. omega arith) (decimal_lacks 46 g.modulus (omega arith) (λ d. omega arith))
 factor_lacks (Vectors g) small = lacks_more 46 88 (decimal g.bits) (λ e. omega arith) (decimal_lacks 46 g.bits (omega arith) (λ d. omega arith))
 
-group_pieces : (g : GroupWord) → NineDigitGroup g → cut 46 (group_spelt g) ≡ factor_pieces g
+pub group_pieces : (g : GroupWord) → NineDigitGroup g → cut 46 (group_spelt g) ≡ factor_pieces g
 group_pieces (One f) small = cut_alone 46 (factor_spelt f) (factor_lacks f small)
 group_pieces (Two p) small =
     cut_first 46 (factor_spelt p.left) (factor_spelt p.right) (factor_lacks p.left small.0)

@@ -43,13 +43,6 @@ pub record HeadingColumns (h : Head GroupWord Number) : Type 0 where
   pub pages : h.pages.column ≡ h.n.column + length (decimal h.n.value) + 1
   pub width : h.width.column ≡ h.pages.column + length (decimal h.pages.value) + 1
 
--- the line orders o, or is the heading h
-abbrev pub IsOrder : List ℕ → Command Number → Type 0
-IsOrder l o = (l ≡ written o) × Columns o
-
-abbrev pub IsHeading : List ℕ → Head GroupWord Number → Type 0
-IsHeading l h = (l ≡ heading_written h) × HeadingColumns h
-
 -- numbers of at most nine digits
 abbrev pub NineDigitOrder : Command Number → Type 0
 NineDigitOrder (Put k x) = (k.value < 1000000000) × (x.value < 1000000000)
@@ -63,6 +56,15 @@ pub record NineDigitHeading (h : Head GroupWord Number) : Type 0 where
   pub n : h.n.value < 1000000000
   pub pages : h.pages.value < 1000000000
   pub width : h.width.value < 1000000000
+
+-- The line orders o: it is o written out, the numbers have the columns of their first digits, and each has at most nine
+-- digits, so that the line orders nothing else.
+abbrev pub IsOrder : List ℕ → Command Number → Type 0
+IsOrder l o = (l ≡ written o) × Columns o × NineDigitOrder o
+
+-- The line is the heading h in the same way, and no other.
+abbrev pub IsHeading : List ℕ → Head GroupWord Number → Type 0
+IsHeading l h = (l ≡ heading_written h) × HeadingColumns h × NineDigitHeading h
 
 -- how many words a command takes, by its letter; none where the letter is no command
 abbrev pub command_word_count : ℕ → Option ℕ
@@ -156,3 +158,10 @@ OrdersPass = (o : Command Number) → NineDigitOrder o → NotRefused (line_rows
 
 abbrev pub HeadingsPass : Type 0
 HeadingsPass = (h : Head GroupWord Number) → NineDigitHeading h → NotRefused (head_rows (heading_written h))
+
+-- The laws of one reading: a line is one order at most, and one heading at most.
+abbrev pub OneOrder : Type 0
+OneOrder = (l : List ℕ) (o o' : Command Number) → IsOrder l o → IsOrder l o' → o ≡ o'
+
+abbrev pub OneHeading : Type 0
+OneHeading = (l : List ℕ) (h h' : Head GroupWord Number) → IsHeading l h → IsHeading l h' → h ≡ h'
