@@ -16,3 +16,7 @@ pub mod Filling
 pub mod Marks
 pub mod Counting
 pub mod Running
+pub mod SameRecord
+pub mod SamePut
+pub mod SameRenewal
+pub mod Determined

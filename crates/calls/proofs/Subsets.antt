@@ -1,10 +1,12 @@
 -- Statements about every set of a few cells, by tests that antt computes. Assumes nothing.
-use Rattle.std.proofs.Common.{◌≡◌, ℕ, zero, suc, ◌<◌, ◌≤◌, Bool, true, false, cond, not, ◌&&◌, ◌||◌, eqb, leb, ◌⊎◌, List, [], ◌∷◌, get_or, sym, refl, ◌∙◌, inl, inr, arith}
-use Rattle.std.proofs.lemmas.Bool.{and_parts, eqb-true, eq-eqb, leb-true, le-leb, both_ways, not-true, or_cases, and_from}
+use Rattle.std.proofs.Common.{◌≡◌, ℕ, zero, suc, ◌<◌, Bool, true, false, not, ◌&&◌, ◌||◌, eqb, leb, List, [], ◌∷◌, get_or, sym, refl, ◌∙◌, subst, arith}
+use Rattle.std.specs.Cmp.Lexicographic.{slice_cmp}
+use Rattle.std.specs.Ordering.{nat_cmp, is_le}
+use Rattle.std.proofs.lemmas.Bool.{and_parts, eqb-true, eq-eqb, leb-true, both_ways, not-true, and_from}
 use Rattle.cells.specs.Sets.{Cellset}
 use Rattle.cells.proofs.Finite.{all_below, passes}
-use Rattle.coset.specs.Code.{Code, sum_of, size_of, Reaches, Unreachable, Plan}
-use Rattle.calls.specs.Examples.{labelled, Listed}
+use Rattle.coset.specs.Code.{Code, sum_of, size_of, cells_of, ComesNoLater, Reaches, Unreachable, Plan}
+use Rattle.coset.proofs.Lists.{cells_agree}
 use Rattle.coset.proofs.Sums.{Agree, size_agree, sum_agree}
 
 -- the test passes at every list of n flags
@@ -84,59 +86,38 @@ module _ (c : Code) (open_cells : Cellset) (d : ℕ) where
   implied true b x y = y
   implied false b x y = absurd (both_ways false refl x)
 
-  -- whether p reaches d, and no set that does is smaller
+  -- whether a set is no smaller than p, and comes no earlier if it is as small
+  abbrev no_better : Cellset → Cellset → Bool
+  no_better p t =
+      leb (size_of c p) (size_of c t)
+      && (not (eqb (size_of c t) (size_of c p)) || is_le (slice_cmp nat_cmp (cells_of c p) (cells_of c t)))
+
+  -- whether p is the plan: it reaches d, and no set that does is better
   abbrev pub plan_test : Cellset → Bool
   plan_test p =
-      reaches c open_cells d p && every_list c.cells (λ bs. not (reaches c open_cells d (as_set bs)) || leb (size_of c p) (size_of c (as_set bs)))
+      reaches c open_cells d p && every_list c.cells (λ bs. not (reaches c open_cells d (as_set bs)) || no_better p (as_set bs))
 
   pub plan_by : (p : Cellset) → plan_test p ≡ true → Plan c open_cells d p
   plan_by p e =
-      let parts = and_parts (reaches c open_cells d p) _ e in
-      record { reaches = reaches_true c open_cells d p parts.0; fewest = λ t q. smaller parts.1 t q }
+      record {
+        reaches = reaches_true c open_cells d p parts.0;
+        fewest = λ t q. let fact = leb-true _ _ (better t q).0 in let same = size t in omega arith;
+        first = λ t q same.
+            subst (ComesNoLater (cells_of c p)) (cells_agree (as_set (flags c.cells t)) t 0 c.cells (λ j lo hi. same_set c.cells t j (omega arith)))
+            (implied _ _ (eq-eqb _ _ (size t ∙ same)) (better t q).1);
+      }
     where
-      smaller :
-          every_list c.cells (λ bs. not (reaches c open_cells d (as_set bs)) || leb (size_of c p) (size_of c (as_set bs))) ≡ true →
-          (t : Cellset) → Reaches c open_cells d t → size_of c p ≤ size_of c t
-      smaller all t q =
-          let le =
-          implied (reaches c open_cells d (as_set (flags c.cells t))) (leb (size_of c p) (size_of c (as_set (flags c.cells t)))) (flags_reach t q)
-          (at_flags c.cells (λ l. not (reaches c open_cells d (as_set l)) || leb (size_of c p) (size_of c (as_set l))) all t) in
-          let same = size_agree (as_set (flags c.cells t)) t c.cells (same_set c.cells t) in
-          let fact = leb-true _ _ le in
-          omega arith
+      parts : (reaches c open_cells d p ≡ true) × (every_list c.cells (λ bs. not (reaches c open_cells d (as_set bs)) || no_better p (as_set bs)) ≡ true)
+      parts = and_parts (reaches c open_cells d p) _ e
 
-  -- whether a set has the cells of one of these sets of labels
-  abbrev same_flag : Bool → Bool → Bool
-  same_flag a b = cond a b (not b)
+      size : (t : Cellset) → size_of c (as_set (flags c.cells t)) ≡ size_of c t
+      size t = size_agree (as_set (flags c.cells t)) t c.cells (same_set c.cells t)
 
-  abbrev listed : List (List ℕ) → Cellset → Bool
-  listed [] s = false
-  listed (ls ∷ more) s = all_below (λ i. same_flag (s i) (labelled ls i)) c.cells || listed more s
-
-  listed_true : (ps : List (List ℕ)) (s t : Cellset) → Agree t s c.cells → listed ps t ≡ true → Listed c s ps
-  listed_true [] s t same e = both_ways false refl e
-  listed_true (ls ∷ more) s t same e =
-      go (or_cases (all_below (λ i. same_flag (t i) (labelled ls i)) c.cells) (listed more t) e) (listed_true more s t same)
-    where
-      equal : (a b : Bool) → same_flag a b ≡ true → a ≡ b
-      equal true b x = sym x
-      equal false b x = sym (not-true b x)
-
-      go : ((all_below (λ i. same_flag (t i) (labelled ls i)) c.cells ≡ true) ⊎ (listed more t ≡ true)) → (listed more t ≡ true → Listed c s more) → ((i : ℕ) → i < c.cells → s i ≡ labelled ls i) ⊎ Listed c s more
-      go (inl here) later = inl (λ i h. sym (same i h) ∙ equal (t i) (labelled ls i) (passes (λ j. same_flag (t j) (labelled ls j)) c.cells here i h))
-      go (inr there) later = inr (later there)
-
-  -- whether every set as small as p that reaches d is listed, so that every plan is
-  abbrev pub list_test : Cellset → List (List ℕ) → Bool
-  list_test p ps =
-      every_list c.cells (λ bs. not (reaches c open_cells d (as_set bs) && leb (size_of c (as_set bs)) (size_of c p)) || listed ps (as_set bs))
-
-  pub listed_by :
-      (p : Cellset) (ps : List (List ℕ)) → plan_test p ≡ true → list_test p ps ≡ true → (s : Cellset) → Plan c open_cells d s → Listed c s ps
-  listed_by p ps r e s plan =
-      let small = plan.fewest p (plan_by p r).reaches in
-      let same = size_agree (as_set (flags c.cells s)) s c.cells (same_set c.cells s) in
-      let le = le-leb (size_of c (as_set (flags c.cells s))) (size_of c p) (omega arith) in
-      listed_true ps s (as_set (flags c.cells s)) (same_set c.cells s)
-      (implied _ _ (and_from _ _ (flags_reach s plan.reaches) le)
-      (at_flags c.cells (λ bs. not (reaches c open_cells d (as_set bs) && leb (size_of c (as_set bs)) (size_of c p)) || listed ps (as_set bs)) e s))
+      better :
+          (t : Cellset) → Reaches c open_cells d t →
+          (leb (size_of c p) (size_of c (as_set (flags c.cells t))) ≡ true)
+          × ((not (eqb (size_of c (as_set (flags c.cells t))) (size_of c p)) || is_le (slice_cmp nat_cmp (cells_of c p) (cells_of c (as_set (flags c.cells t))))) ≡ true)
+      better t q =
+          and_parts _ _
+          (implied (reaches c open_cells d (as_set (flags c.cells t))) _ (flags_reach t q)
+          (at_flags c.cells (λ l. not (reaches c open_cells d (as_set l)) || no_better p (as_set l)) parts.1 t))

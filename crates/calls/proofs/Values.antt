@@ -45,7 +45,7 @@ full_exactly c (Put k x) (Err f) before after obeys = λ earlier. go earlier obe
     go earlier (inr (no40, inr (no41, inl here))) = (λ _. here.0, λ _. here.1)
     go earlier (inr (no40, inr (no41, inr (no42, never)))) = absurd never
 
--- An accepted put sets a fewest such set.
+-- An accepted put sets the cells of the plan.
 pub fewest : (c : Code) (call : Call) (answer : Answer) (before after : State) → Obeys c call answer before after → Fewest c call answer before.cells after.cells
 fewest c (Get k) answer before after obeys = tt
 fewest c (Renew k x) answer before after obeys = tt

@@ -1,5 +1,5 @@
 -- Examples worked by hand, as statements about the definitions. Assumes nothing.
-use Rattle.std.specs.Prelude.{◌≡◌, ℕ, ◌+◌, ◌-◌, ◌<◌, false, ◌||◌, ◌⊎◌, List, [], ◌∷◌, ◌==◌}
+use Rattle.std.specs.Prelude.{◌≡◌, ℕ, ◌+◌, ◌-◌, false, ◌||◌, List, [], ◌∷◌, ◌==◌}
 use Rattle.group.specs.Group.{Group, step, most_halves, figure}
 use Rattle.group.specs.Integers.{integers}
 use Rattle.group.specs.Vectors.{vectors}
@@ -7,11 +7,12 @@ use Rattle.group.specs.Product.{product}
 use Rattle.cells.specs.Cells.{Cells}
 use Rattle.cells.specs.Sets.{Cellset}
 use Rattle.cells.specs.Rows.{Refused, Served}
-use Rattle.coset.specs.Code.{Code, code, Plan}
+use Rattle.coset.specs.Code.{Code, code, cells_of, ComesNoLater, Plan}
+use Rattle.coset.specs.OnePlan.{SameCells}
 use Rattle.calls.specs.declared.call.Call.{Call}
 use Rattle.calls.specs.declared.call.Call.TheVariants.{Put, Renew}
 use Rattle.calls.specs.Records.{making_rows, records, page_of, first_of, free, value}
-use Rattle.calls.specs.Calls.{rows}
+use Rattle.calls.specs.Calls.{rows, Serves}
 use Rattle.calls.specs.Ledger.{rate}
 
 -- the cells with these labels: cell i has the label i + 1, as in the first cells of a record by the rules
@@ -27,19 +28,20 @@ one_record c ls = record { pages = 1; width = c.cells; set = λ p i. labelled ls
 abbrev pub array_of : ℕ → ℕ → Cells
 array_of pages width = record { pages = pages; width = width; set = λ p i. false; wear = λ p. 0; limit = 1 }
 
--- s has the cells of one of these sets of labels
-abbrev pub Listed : Code → Cellset → List (List ℕ) → Type 0
-Listed c s [] = ⊥
-Listed c s (ls ∷ more) = ((i : ℕ) → i < c.cells → s i ≡ labelled ls i) ⊎ Listed c s more
-
 -- The kinds of examples. Of a record of a code, with the cells of some labels set, it …
 pub data Example : Type 0 where
   -- … holds this value
   holds : Code → List ℕ → ℕ → Example
   -- … is this step away from this target
   steps : Code → List ℕ → ℕ → ℕ → Example
-  -- … has exactly these plans for this target
-  plans : Code → List ℕ → ℕ → List (List ℕ) → Example
+  -- … has this plan for this target, and no other
+  plans : Code → List ℕ → ℕ → List ℕ → Example
+  -- … has these cells set after a put of this value, rising, and no others
+  puts : Code → List ℕ → ℕ → List ℕ → Example
+  -- … has these cells set, rising
+  lists : Code → List ℕ → List ℕ → Example
+  -- of two lists of cells the first comes before the second in dictionary order
+  comes_first : List ℕ → List ℕ → Example
   -- … refuses this call by this number
   refuses : Code → List ℕ → Call → ℕ → Example
   -- two elements and their sum
@@ -55,21 +57,22 @@ pub data Example : Type 0 where
   -- on
   placed_at : Code → ℕ → ℕ → ℕ → ℕ → ℕ → ℕ → Example
 
--- what a plan of it is a plan for
+-- the step from its value to x
 abbrev pub step_to : Code → List ℕ → ℕ → ℕ
 step_to c ls x = step c.group (value c (one_record c ls) 0) x
 
-abbrev pub Planned : Code → List ℕ → ℕ → List (List ℕ) → Type 0
-Planned c ls x [] = Unit {0}
-Planned c ls x (p ∷ ps) =
-    Plan c (free c (one_record c ls) 0) (step_to c ls x) (labelled p) × Planned c ls x ps
+abbrev pub IsPlan : Code → List ℕ → ℕ → Cellset → Type 0
+IsPlan c ls x s = Plan c (free c (one_record c ls) 0) (step_to c ls x) s
 
 abbrev pub ExampleHolds : Example → Type 0
 ExampleHolds (holds c ls x) = value c (one_record c ls) 0 ≡ x
 ExampleHolds (steps c ls x d) = step_to c ls x ≡ d
-ExampleHolds (plans c ls x ps) =
-    Planned c ls x ps
-    × ((s : Cellset) → Plan c (free c (one_record c ls) 0) (step_to c ls x) s → Listed c s ps)
+ExampleHolds (plans c ls x p) =
+    IsPlan c ls x (labelled p) × ((s : Cellset) → IsPlan c ls x s → SameCells c (labelled p) s)
+ExampleHolds (puts c ls x cells) =
+    (r : ℕ) (after : Cells) → Serves c (Put 0 x) r (one_record c ls) after → cells_of c (after.set 0) ≡ cells
+ExampleHolds (lists c ls cells) = cells_of c (labelled ls) ≡ cells
+ExampleHolds (comes_first xs ys) = ComesNoLater xs ys × (ComesNoLater ys xs → ⊥)
 ExampleHolds (refuses c ls call k) = Refused (rows c (one_record c ls) call) k
 ExampleHolds (sums g a b x) = g.sum a b ≡ x
 ExampleHolds (figures g e h) = (most_halves g (g.order - 1) ≡ e) × (figure g ≡ h)
@@ -94,19 +97,19 @@ z4 = code (integers 4) 1
 abbrev pub worked : List Example
 worked =
     holds z7 (1 ∷ (5 ∷ [])) 6 ∷
-    (plans z7 [] 3 ((3 ∷ []) ∷ []) ∷
-    (plans z7 (3 ∷ []) 6 ((1 ∷ (2 ∷ [])) ∷ ((4 ∷ (6 ∷ [])) ∷ [])) ∷
+    (plans z7 [] 3 (3 ∷ []) ∷
+    (plans z7 (3 ∷ []) 6 (1 ∷ (2 ∷ [])) ∷
     (holds z7 (4 ∷ (5 ∷ (6 ∷ []))) 1 ∷
     (steps z7 (4 ∷ (5 ∷ (6 ∷ []))) 0 6 ∷
-    (plans z7 (4 ∷ (5 ∷ (6 ∷ []))) 0 ((1 ∷ (2 ∷ (3 ∷ []))) ∷ []) ∷
+    (plans z7 (4 ∷ (5 ∷ (6 ∷ []))) 0 (1 ∷ (2 ∷ (3 ∷ []))) ∷
     (holds z7 (1 ∷ (2 ∷ (3 ∷ (4 ∷ (5 ∷ (6 ∷ [])))))) 0 ∷
     (refuses z7 (1 ∷ (2 ∷ (3 ∷ (4 ∷ (5 ∷ (6 ∷ [])))))) (Put 0 1) 42 ∷
-    (plans z7 (1 ∷ (2 ∷ (3 ∷ (4 ∷ (5 ∷ (6 ∷ [])))))) 0 ([] ∷ []) ∷
-    (plans (code (vectors 2) 3) (1 ∷ []) 0 ((2 ∷ (3 ∷ [])) ∷ []) ∷
+    (plans z7 (1 ∷ (2 ∷ (3 ∷ (4 ∷ (5 ∷ (6 ∷ [])))))) 0 [] ∷
+    (plans (code (vectors 2) 3) (1 ∷ []) 0 (2 ∷ (3 ∷ [])) ∷
     (sums (product (integers 2) (integers 3)) 4 5 0 ∷
     (refuses z4 [] (Put 0 2) 42 ∷
     (refuses z4 [] (Renew 0 2) 44 ∷
-    (plans z4 [] 1 ((1 ∷ []) ∷ []) ∷
+    (plans z4 [] 1 (1 ∷ []) ∷
     (figures (integers 7) 1 1 ∷
     (figures (vectors 3) 0 2 ∷
     (figures (product (integers 2) (integers 4)) 4 1 ∷
@@ -116,7 +119,12 @@ worked =
     (making_refused (code (integers 64) 64) 64 31 ∷
     (placed_at z7 2 64 13 20 1 18 ∷
     (placed_at (code (integers 2) 1) 64 1024 4095 4096 63 63 ∷
-    (placed_at (code (integers 65) 6) 2 64 0 0 0 0 ∷ [])))))))))))))))))))))))
+    (placed_at (code (integers 65) 6) 2 64 0 0 0 0 ∷
+    (puts z7 (3 ∷ []) 6 (0 ∷ (1 ∷ (2 ∷ []))) ∷
+    (puts (code (integers 3) 4) [] 1 (0 ∷ []) ∷
+    (lists z7 (6 ∷ (4 ∷ [])) (3 ∷ (5 ∷ [])) ∷
+    (comes_first (0 ∷ (1 ∷ [])) (3 ∷ (5 ∷ [])) ∷
+    (comes_first (0 ∷ (9 ∷ [])) (1 ∷ (2 ∷ [])) ∷ []))))))))))))))))))))))))))))
 
 -- The examples hold.
 abbrev pub Worked : Type 0

@@ -8,5 +8,6 @@ pub mod Accesses
 pub mod Promise
 pub mod Steps
 pub mod Lists
+pub mod Determined
 pub mod Examples
 pub mod Sample

@@ -42,7 +42,7 @@ pub record Within (c : Code) (m : Cells) (k p j : ℕ) : Type 0 where
 abbrev pub held : Code → Cells → ℕ → Cellset
 held c m k i = m.set (page_of c m k) (first_of c m k + i)
 
--- which of them a plan may set
+-- which of them the plan may set
 abbrev pub free : Code → Cells → ℕ → Cellset
 free c m k i = not (held c m k i)
 

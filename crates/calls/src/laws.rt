@@ -1,5 +1,6 @@
 //! Theorems over whole histories of calls, each on the contract of a function of its own.
 //! They speak of the definitions; the calls of a store are to be shown to obey the rules that they start from.
+ghost use Rattle.calls.specs.Determined.{CallsAgree, RunsAgree, ListsAgree};
 ghost use Rattle.calls.specs.Examples.{Worked};
 ghost use Rattle.calls.specs.Lists.{PairedCellsKnown};
 ghost use Rattle.calls.specs.Promise.{RulesSuffice, SingleCallsSuffice};
@@ -11,7 +12,7 @@ use cells::paired::Paired;
 
 /// Whatever obeys the rules of one call at each call keeps the whole promise over the list: changes per erase and what a
 /// data sheet may say besides, a set cell lasts until its page is renewed, a get answers the value last accepted, wear,
-/// ledger, full and fewest.
+/// ledger, full exactly when nothing fits, and the first of the fewest.
 pub fn rules_suffice()
     ensures { RulesSuffice }
 {}
@@ -25,6 +26,20 @@ pub fn single_calls_suffice()
 /// mark of the history, and unset only by an erase of its page.
 pub fn paired_cells_known<A: CellArray>()
     ensures { PairedCellsKnown A.CellArray ⟦<Paired<A> as CellArray>⟧ }
+{}
+
+/// One call, and a run of them, is determined: with one code and from states that agree the same calls have the same
+/// answers, a fault with all that it carries included, need the same steps of the array, and end in states that agree.
+pub fn runs_agree()
+    ensures calls { CallsAgree }
+    ensures runs { RunsAgree }
+{}
+
+/// So are lists of calls with one code over any two arrays whose cells agree, of one kind or not, from equal ledgers:
+/// the entries of both lists are equal afterwards, and so are the ledgers; both arrays took the same steps, and their
+/// cells agree.
+pub fn lists_agree<A: CellArray, B: CellArray, C>()
+    ensures { ListsAgree A.CellArray B.CellArray C }
 {}
 
 /// The rules can be obeyed: there are lawful groups of every order from 2 to 64, a history with every kind of call and

@@ -1,11 +1,12 @@
 -- Sets with no cell from some cell on, and codes with more cells than a set can use. Assumes nothing.
-use Rattle.std.proofs.Common.{◌≡◌, ℕ, zero, suc, ◌<◌, ◌≤◌, Bool, true, false, cond, ◌⊎◌, sym, refl, ap, ◌∙◌, inl, inr, arith}
+use Rattle.std.proofs.Common.{◌≡◌, ℕ, zero, suc, ◌<◌, ◌≤◌, Bool, true, false, cond, ◌⊎◌, [], sym, refl, ap, ◌∙◌, inl, inr, arith}
 use Rattle.std.proofs.lemmas.Bool.{cases_Bool, cases_eq, cases_lt, both_ways}
 use Rattle.std.proofs.lemmas.Bool.Decides.{nat_tests}
 use Rattle.group.specs.Group.{Group, Lawful, Usable, has, unusable}
 use Rattle.cells.specs.Sets.{Cellset, size_below}
-use Rattle.coset.specs.Code.{Code, code, sum_below, Reaches, Unreachable, Plan}
+use Rattle.coset.specs.Code.{Code, code, sum_below, cells_of, Reaches, Unreachable, Plan}
 use Rattle.coset.proofs.Sums.{label_in, sum_in}
+use Rattle.coset.proofs.Lists.{cells_beyond, no_later}
 
 -- no cell of s lies from m on and below n
 abbrev pub Quiet : Cellset → ℕ → ℕ → Type 0
@@ -47,7 +48,7 @@ sum_never c laws never s (suc n) = go (s n) (sum_never c laws never s n)
     go true e = laws.unusable_sum never _ _
     go false e = e
 
--- the empty set is a plan for 0
+-- the empty set is the plan for 0
 pub plan_nothing : (c : Code) (free s : Cellset) → ((i : ℕ) → s i ≡ false) → Plan c free 0 s
 plan_nothing c free s empty = record {
   reaches = record {
@@ -55,6 +56,7 @@ plan_nothing c free s empty = record {
     sums = sum_empty c s c.cells (λ j l h. empty j);
   };
   fewest = λ t reaches. let e = size_empty s c.cells (λ j l h. empty j) in omega arith;
+  first = λ t reaches same. rw (cells_beyond s 0 0 c.cells (omega arith) (λ j lo hi. empty j)) (no_later [] (cells_of c t) tt);
 }
 
 -- no other number is a sum in an unusable group, and only elements are sums in a usable one
@@ -109,6 +111,13 @@ module _ (g : Group) (m n : ℕ) (fewer : m ≤ n) (free : Cellset) (none_free :
         let size_s = size_beyond s m n fewer none_beyond in
         let size_t = size_beyond t m n fewer (quiet t reaches) in
         omega arith;
+    first = λ t reaches same.
+        let size_s = size_beyond s m n fewer none_beyond in
+        let size_t = size_beyond t m n fewer (quiet t reaches) in
+        rw (
+          cells_beyond s 0 m n fewer (λ j lo hi. none_beyond j (omega arith) (omega arith)),
+          cells_beyond t 0 m n fewer (λ j lo hi. quiet t reaches j (omega arith) (omega arith)),
+        ) (plan.first t (fewer_reaches t reaches) (omega arith));
   }
     where
       inside : (i : ℕ) → i < n → s i ≡ true → (i < m) ⊎ (m ≤ i) → free i ≡ true

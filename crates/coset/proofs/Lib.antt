@@ -1,6 +1,8 @@
 pub mod Groups
 pub mod Sums
 pub mod Flags
+pub mod Lists
+pub mod OnePlan
 pub mod Beyond
 pub mod Entries
 pub mod Rows

@@ -1,14 +1,16 @@
--- The walk through the planner's table, which ends with a plan. Assumes nothing.
+-- The walk through the planner's table, which ends with the plan. Assumes nothing.
 use Rattle.std.proofs.Common.{◌≡◌, ℕ, ◌+◌, ◌-◌, ◌<◌, ◌≤◌, min, Bool, true, false, cond, not, ◌&&◌, ◌||◌, eqb, ◌⊎◌, sym, refl, ap, ◌∙◌, inl, inr, arith}
 use Rattle.std.proofs.lemmas.Bool.{cases_Bool, cases_eq, cases_lt, eq-eqb, ne_eqb, eqb-true, and_parts, and_from, or_cases, or_left, or_right, not-true, not_from_false, both_ways}
 use Rattle.group.specs.Group.{Group, Lawful, Usable, In, step}
 use Rattle.cells.specs.Sets.{Cellset, size_below}
 use Rattle.coset.specs.Code.{code, sum_of, size_of, Reaches, Plan}
-use Rattle.coset.specs.Plans.{First, Filled, fewest_at, entry_from_next}
+use Rattle.coset.specs.OnePlan.{HasLowest}
+use Rattle.coset.specs.Plans.{Filled, fewest_at, entry_from_next}
 use Rattle.coset.specs.declared.planner.Table.{Table}
 use Rattle.coset.proofs.Groups.{step_in, step_leads, step_only, sum_zero}
 use Rattle.coset.proofs.Sums.{Agree, Apart, only, either, label_in, sum_in, sum_agree, sum_either, sum_only, size_agree, size_either, size_only}
 use Rattle.coset.proofs.Beyond.{sum_empty, size_empty}
+use Rattle.coset.proofs.OnePlan.{lowest_is_first}
 use Rattle.coset.proofs.Entries.{turn_in, without, size_without, From, from_without, rest_without, entry_least}
 
 -- The walk to d stands before cell i: it has chosen cells before i, and the cells from i on are to sum to the rest.
@@ -222,6 +224,14 @@ module _ (g : Group) (laws : Lawful g) (usable : Usable g) (n : ℕ) (free : Cel
             let reached = walked.reached in
             omega arith
 
+    walk_lowest : HasLowest (code g n) free d chosen
+    walk_lowest t reaches same j h agree differ = go (cases_Bool (chosen j)) (cases_Bool (t j))
+      where
+        go : (chosen j ≡ true) ⊎ (chosen j ≡ false) → (t j ≡ true) ⊎ (t j ≡ false) → chosen j ≡ true
+        go (inl has) _ = has
+        go (inr lacks) (inr none) = absurd (differ (none ∙ sym lacks))
+        go (inr lacks) (inl member) = let sizes = walked.sizes in walked.first t reaches (omega arith) j (omega arith) agree member
+
     pub walk_ends : Plan (code g n) free d chosen
     walk_ends = record {
       reaches = record {
@@ -234,7 +244,5 @@ module _ (g : Group) (laws : Lawful g) (usable : Usable g) (n : ℕ) (free : Cel
           let least = entry_least g laws usable n free table filled n 0 (omega arith) t (λ j h member. (reaches.within j h member, omega arith)) in
           let sizes = walked.sizes in
           omega (arith, ap (λ z. fewest_at table 0 z) reaches.sums);
+      first = lowest_is_first (code g n) free d chosen walk_lowest;
     }
-
-    pub walk_first : First (code g n) free d chosen
-    walk_first t reaches few j h same = let sizes = walked.sizes in walked.first t reaches (omega arith) j (omega arith) same

@@ -1,5 +1,8 @@
 -- Coset codes: the cells of a record have elements of a group as labels, and a set of cells has a sum. Assumes nothing.
-use Rattle.std.specs.Prelude.{◌≡◌, ℕ, zero, suc, ◌+◌, ◌-◌, ◌%◌, ◌<◌, ◌≤◌, true, cond}
+use Rattle.std.specs.Prelude.{◌≡◌, ℕ, zero, suc, ◌+◌, ◌-◌, ◌%◌, ◌<◌, ◌≤◌, true, cond, List}
+use Rattle.std.specs.Cmp.Lexicographic.{slice_cmp}
+use Rattle.std.specs.List.{filter, range_with_len}
+use Rattle.std.specs.Ordering.{nat_cmp, is_le}
 use Rattle.group.specs.Group.{Group}
 use Rattle.cells.specs.Sets.{Cellset, size_below}
 
@@ -51,7 +54,20 @@ Reachable c free d = (s : Cellset) × Reaches c free d s
 abbrev pub Unreachable : Code → Cellset → ℕ → Type 0
 Unreachable c free d = (s : Cellset) → Reaches c free d s → ⊥
 
--- A plan for d: such a set, and every such set has at least as many cells.
+-- the cells of a record that are in s, rising
+abbrev pub cells_of : Code → Cellset → List ℕ
+cells_of c s = filter s (range_with_len 0 c.cells)
+
+-- A list of numbers comes no later than another in dictionary order: they are the same, or where they first differ it
+-- has the smaller number or has ended.
+abbrev pub ComesNoLater : List ℕ → List ℕ → Type 0
+ComesNoLater xs ys = is_le (slice_cmp nat_cmp xs ys) ≡ true
+
+-- The plan for d: a set of free cells whose sum is d, of which no such set has fewer. Of those with as many cells it
+-- comes first: no other has a list of cells that comes earlier. So there is one plan at most (`PlansAgree` in
+-- `OnePlan`).
 pub record Plan (c : Code) (free : Cellset) (d : ℕ) (s : Cellset) : Type 0 where
   pub reaches : Reaches c free d s
   pub fewest : (t : Cellset) → Reaches c free d t → size_of c s ≤ size_of c t
+  pub first :
+      (t : Cellset) → Reaches c free d t → size_of c t ≡ size_of c s → ComesNoLater (cells_of c s) (cells_of c t)

@@ -2,22 +2,15 @@
 use Rattle.std.specs.Prelude.{◌≡◌, ◌≢◌, ℕ, ◌+◌, ◌*◌, ◌<◌, ◌≤◌, min, Bool, true, cond, Some, None, Option, ◌==◌, List, slice_index}
 use Rattle.group.specs.Group.{Group, In, step}
 use Rattle.cells.specs.Sets.{Cellset}
-use Rattle.coset.specs.Code.{Code, size_of, Reaches, Unreachable, Plan}
+use Rattle.coset.specs.Code.{Code, Unreachable, Plan}
 use Rattle.coset.specs.CellSets.{members_of}
 use Rattle.coset.specs.declared.cellset.CellSet.{CellSet}
 use Rattle.coset.specs.declared.planner.Table.{Table}
 
--- A set of the fewest free cells that sum to d, with no cell past those of a record; or none where no free cells do.
+-- The plan for d, with no cell past those of a record; or none where no free cells sum to d.
 abbrev pub Plans : Code → Cellset → ℕ → Option CellSet → Type 0
 Plans c free d None = Unreachable c free d
 Plans c free d (Some s) = Plan c free d (members_of s) × ((i : ℕ) → members_of s i ≡ true → i < c.cells)
-
--- s is the first in dictionary order of the sets of as few free cells that sum to d: where another first differs
--- from it, it is s that has the cell.
-abbrev pub First : Code → Cellset → ℕ → Cellset → Type 0
-First c free d s =
-    (t : Cellset) → Reaches c free d t → size_of c t ≤ size_of c s →
-    (i : ℕ) → i < c.cells → ((j : ℕ) → j < i → t j ≡ s j) → t i ≡ true → s i ≡ true
 
 -- the entry of a table for cell i and element s: the rows stand one after the other, with 64 entries each
 abbrev pub fewest_at : Table → ℕ → ℕ → ℕ

@@ -1,10 +1,11 @@
-// The planner: the fewest free cells of a record whose labels sum to a given element.
-// A table of the fewest cells, by cell and element, is filled from the last cell to the first, and then walked back.
+// The planner: the smallest set of free cells of a record whose labels sum to a given element, and of several the
+// first. A table of the fewest cells, by cell and element, is filled from the last cell to the first, and then walked
+// back.
 ghost use Rattle.std.specs.Prelude.{◌≡◌, ℕ, ◌+◌, ◌-◌, ◌<◌, ◌≤◌, ◌==◌, min, true, replicate, slice_index};
 ghost use Rattle.group.specs.Group.{In, Usable, step};
 ghost use Rattle.coset.specs.CellSets.{members_of};
 ghost use Rattle.coset.specs.Code.{Plan};
-ghost use Rattle.coset.specs.Plans.{Plans, First, Filled, PutsRow, fewest_at};
+ghost use Rattle.coset.specs.Plans.{Plans, Filled, PutsRow, fewest_at};
 ghost use Rattle.coset.specs.Code.{label_of};
 
 use crate::cellset::{CellSet, MAX_CELLS};
@@ -70,7 +71,8 @@ impl Table {
 impl<G: Group> Code<G> {
     ghost use Rattle.coset.specs.Codes.{code_of};
 
-    // A set of the fewest free cells that sum to `step`, or none where no free cells do.
+    // The smallest set of free cells that sums to `step`, and of several the first in dictionary order of their rising
+    // lists of cells; or none where no free cells do.
     pub fn plan(&self, free: &CellSet, step: u32) -> Option<CellSet>
         ensures { Plans (code_of G.Group self.now) (members_of free.now) step result }
     {
@@ -139,15 +141,15 @@ impl<G: Group> Search<'_, G> {
         moved
     }
 
-    // From the first cell on, a cell is taken wherever the fewest cells from it on can do with it. A loop, since each
-    // turn goes on from the set and the step that the one before left; a fold would carry the two as a pair.
+    // From the first cell on, a cell is taken wherever the fewest cells from it on can do with it. So where another
+    // smallest set first differs, it is the other that lacks the cell. A loop, since each turn goes on from the set
+    // and the step that the one before left; a fold would carry the two as a pair.
     fn walk(&self, table: &Table, step: u32) -> CellSet
         requires filled { Filled (search_code self.now) (members_of self.now.free.now) table.now 0 }
         requires element { In (G.Group.meaning self.now.code.now.group) step }
         requires reached { fewest_at table.now 0 step < 255 }
         ensures plan { Plan (search_code self.now) (members_of self.now.free.now) step (members_of result) }
         ensures within { (i : ℕ) → members_of result i ≡ true → i < self.now.cells }
-        ensures first { First (search_code self.now) (members_of self.now.free.now) step (members_of result) }
     {
         let mut chosen = CellSet::empty();
         let mut rest = step;

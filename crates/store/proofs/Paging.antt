@@ -11,7 +11,7 @@ use Rattle.coset.specs.CellSets.{members_of}
 use Rattle.coset.specs.declared.cellset.CellSet.{CellSet}
 use Rattle.calls.specs.Calls.{sizes}
 use Rattle.store.specs.Parts.{set_from, SetsCells, nth_place, target, PlansOfPage, PageWritten}
-use Rattle.store.proofs.Setting.{shaped_then}
+use Rattle.cells.proofs.Alikes.{shaped_then}
 
 -- the value of a set of cells is within reach from empty
 own_reach : (c : Code) (s : Cellset) → Unreachable c every (sum_of c s) → ⊥
@@ -95,7 +95,7 @@ module _ (n page : ℕ) (plans : List CellSet) (m : Cells) where
   unfolding sizes
   page_step r marked count s m' m'' room is fits here written sets counts =
       record {
-        shape = shaped_then m m' m'' written.shape sets.shape;
+        shape = shaped_then written.shape sets.shape;
         written = λ q i d h k. cells q i d h k (cases_eq q r);
         beyond = λ j lo hi.
             let end = row_end n r in

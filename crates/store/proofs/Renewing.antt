@@ -20,7 +20,7 @@ use Rattle.calls.specs.Calls.{state_of, Renewed, renewed_value, rows, Obeys}
 use Rattle.calls.proofs.Geometry.{There, there, number_of, page_back, place_back}
 use Rattle.store.specs.declared.place.Found.{Found}
 use Rattle.store.specs.Parts.{FoundRecord, set_from, nth_place, target, PlansOfPage, PageWritten}
-use Rattle.store.proofs.Setting.{shaped_then}
+use Rattle.cells.proofs.Alikes.{shaped_then}
 use Rattle.store.proofs.Located.{located_ok}
 use Rattle.store.proofs.Serving.{unreachable_free, open_cells, open_free}
 
@@ -132,7 +132,7 @@ module _ (c : Code) (m : Cells) (k : ℕ) (found : Found) (known : FoundRecord c
           renewed : Renewed c k x m m'' marked
           renewed =
               record {
-                shape = shaped_then m m' m'' erased.shape written.shape;
+                shape = shaped_then erased.shape written.shape;
                 plans = λ r. members_of (get_or plans r d₀);
                 planned = all_planned;
                 written = λ r i h lt. ap (λ p. m''.set p (r * c.cells + i)) (sym known.place.1) ∙ written.written r i d₀ h lt;

@@ -1,5 +1,5 @@
 -- From the steps of a call to the rules that it obeys. Assumes nothing.
-use Rattle.std.proofs.Common.{◌≡◌, ℕ, ◌+◌, ◌-◌, ◌%◌, ◌<◌, not, Ok, sym, ap, ◌∙◌, ap₂, arith}
+use Rattle.std.proofs.Common.{◌≡◌, ℕ, ◌+◌, ◌-◌, ◌%◌, ◌<◌, not, Ok, refl, ap, ◌∙◌, ap₂, arith}
 use Rattle.cells.specs.Cells.{Cells}
 use Rattle.cells.specs.Sets.{Cellset}
 use Rattle.coset.specs.CellSets.{members_of}
@@ -9,15 +9,12 @@ use Rattle.coset.specs.Code.{Code, sum_of, Unreachable, Plan}
 use Rattle.calls.specs.Records.{per_page, page_of, first_of, held, free, value}
 use Rattle.store.specs.Parts.{FoundRecord, LiesAt, Inside, set_from}
 use Rattle.coset.proofs.Sums.{Agree, sum_agree}
+use Rattle.coset.proofs.OnePlan.{plan_move}
 use Rattle.calls.proofs.Geometry.{There, there, place_within}
 
 -- what is free may be told by any test that agrees on the cells
 pub plan_free : (c : Code) (f h : Cellset) (d : ℕ) (s : Cellset) → Agree f h c.cells → Plan c f d s → Plan c h d s
-plan_free c f h d s same plan =
-    record {
-      reaches = record { within = λ i lt m. sym (same i lt) ∙ plan.reaches.within i lt m; sums = plan.reaches.sums };
-      fewest = λ t r. plan.fewest t (record { within = λ i lt m. same i lt ∙ r.within i lt m; sums = r.sums });
-    }
+plan_free c f h d s same plan = plan_move c f h d d s same refl plan
 
 pub unreachable_free : (c : Code) (f h : Cellset) (d : ℕ) → Agree f h c.cells → Unreachable c f d → Unreachable c h d
 unreachable_free c f h d same none s r = none s (record { within = λ i lt m. same i lt ∙ r.within i lt m; sums = r.sums })

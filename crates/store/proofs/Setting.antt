@@ -1,22 +1,16 @@
 -- Setting the cells of a set one by one. Assumes nothing.
 use Rattle.std.proofs.Common.{◌≡◌, ℕ, ◌+◌, ◌<◌, ◌≤◌, Bool, true, false, ◌&&◌, ◌||◌, ltb, ◌⊎◌, sym, refl, ap, ◌∙◌, ap₂, inl, inr, arith}
 use Rattle.std.proofs.lemmas.Bool.{cases_eq, cases_lt, lt-ltb, le-ltb, or_right}
-use Rattle.cells.specs.Cells.{Cells, Shaped, Cell}
+use Rattle.cells.specs.Cells.{Cells, Cell}
 use Rattle.cells.specs.Sets.{Cellset}
 use Rattle.cells.specs.Device.{Marked}
 use Rattle.store.specs.declared.place.Place.{Place}
+use Rattle.cells.proofs.Alikes.{shaped_itself, shaped_then}
 use Rattle.store.specs.Parts.{Inside, set_from, SetsCells}
 
 -- the cells of s below k
 abbrev pub first_of_set : Cellset → ℕ → Cellset
 first_of_set s k i = ltb i k && s i
-
-shaped_same : (m : Cells) → Shaped m m
-shaped_same m = record { pages = refl; width = refl; limit = refl }
-
-pub shaped_then : (m m' m'' : Cells) → Shaped m m' → Shaped m' m'' → Shaped m m''
-shaped_then m m' m'' a b =
-    record { pages = b.pages ∙ a.pages; width = b.width ∙ a.width; limit = b.limit ∙ a.limit }
 
 -- sets that agree on the n cells
 pub sets_agree : (n : ℕ) (at : Place) (s t : Cellset) (m m' : Cells) → ((i : ℕ) → i < n → s i ≡ t i) → SetsCells n at s m m' → SetsCells n at t m m'
@@ -35,7 +29,7 @@ or_false false = refl
 pub sets_none : (n : ℕ) (at : Place) (s : Cellset) (m : Cells) → SetsCells n at (first_of_set s 0) m m
 sets_none n at s m =
     record {
-      shape = shaped_same m;
+      shape = shaped_itself m;
       here = λ i h. or_false (set_from m at i) ∙ ap (λ b. set_from m at i || (b && s i)) (sym (le-ltb i 0 (omega arith)));
       others = λ p j cell outside. refl;
       wear = λ p h. refl;
@@ -61,7 +55,7 @@ pub sets_with :
     Marked at.page (at.first + k) m' m'' → SetsCells n at (first_of_set s (k + 1)) m m''
 sets_with n at s k m m' m'' inside lt member sets marked =
     record {
-      shape = shaped_then m m' m'' sets.shape marked.shape;
+      shape = shaped_then sets.shape marked.shape;
       here = λ i h. here i h (cases_eq i k);
       others = λ p j cell outside.
           marked.others p j (cell' p j cell) (λ at_k. outside (at_k.0, let e = at_k.1 in omega arith, let e = at_k.1 in omega arith))

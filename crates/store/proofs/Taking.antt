@@ -28,7 +28,7 @@ module _ {A : Type 0} (array : Ghosts A) where
   erase_takes k p a b (Ok v) u e erases step = (erases, step)
   erase_takes k p a b (Err f) u e erases step = absurd (let z : ◌≡◌ {A = ℕ} 0 1 = cc in omega arith)
 
-  -- a put that marked the cells of a plan
+  -- a put that marked the cells of the plan
   pub put_takes :
       (c : Code) (m m' : Cells) (k : ℕ) (found : Found) (d : ℕ) (s : Cellset) (a a' : A) →
       FoundRecord c m k found → Plan c (λ i. not (members_of found.held i)) d s → SetsCells c.cells found.place s m m' →

@@ -61,7 +61,7 @@ nth_place c page r = record { page = page; first = r * c.cells }
 abbrev pub target : Code → Cells → ℕ → ℕ → ℕ → ℕ → ℕ
 target c m page named x r = cond (r == named) x (sum_of c (set_from m (nth_place c page r)))
 
--- a plan from empty for each of the first b records of a page
+-- the plan from empty of each of the first b records of a page
 pub record PlansOfPage (c : Code) (m : Cells) (page named x b : ℕ) (plans : List CellSet) : Type 0 where
   pub all : length plans ≡ b
   pub each : (r : ℕ) (d : CellSet) → r < b → Plan c every (target c m page named x r) (members_of (slice_index_or plans r d))

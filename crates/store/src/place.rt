@@ -21,5 +21,5 @@ pub(crate) struct Found {
     pub(crate) value: u32,
 }
 
-// A plan for each record of a page. It never allocates, so that a renewal never fails for want of memory.
+// The plan of each record of a page. It never allocates, so that a renewal never fails for want of memory.
 pub(crate) type PagePlans = ArrayVec<CellSet, MAX_PER_PAGE>;

@@ -3,7 +3,7 @@ use Rattle.std.proofs.lemmas.Bool.{both_ways}
 use Rattle.group.specs.Group.{Group, Lawful, Usable, step}
 use Rattle.coset.specs.CellSets.{members_of}
 use Rattle.coset.specs.Plans.{fewest_at}
-use Rattle.coset.proofs.Walks.{walk_starts, walk_takes, walk_leaves, walk_rests, walk_ends, walk_first}
+use Rattle.coset.proofs.Walks.{walk_starts, walk_takes, walk_leaves, walk_rests, walk_ends}
 use Rattle.coset.proofs.planner.Search.walk.Goals as goal
 use Rattle.coset.proofs.planner.Search.walk.Goals.{then-rest-ne0+then-contains+then-taken-get, then-rest-ne0+then-contains+else-taken-get, else-rest-ne0, else-rest-ne0-via-then-rest-ne0+else-contains, else-rest-ne0-via-else-rest-ne0}
 
@@ -65,7 +65,4 @@ returns g c =
           walk_ends _ laws c.args.self.now.usable c.args.self.now.cells _ c.args.table.now c.requires.filled c.args.step
           c.loop-cell.cell (omega arith) _ _ c.loop-cell.invariant;
       within = λ i member. let early = (c.loop-cell.invariant.within i member).1 in omega arith;
-      first =
-          walk_first _ laws c.args.self.now.usable c.args.self.now.cells _ c.args.table.now c.requires.filled c.args.step
-          c.loop-cell.cell (omega arith) _ _ c.loop-cell.invariant;
     }
