@@ -60,15 +60,18 @@ enum {
 uint32_t record_store_get(uint32_t kind, uint32_t parameter, uint32_t n, uint32_t record, uint8_t *image, size_t length);
 
 /*
- * Sets the fewest cells that take a record to a value, and answers how many. Where the record has the value already it
- * sets none and answers 0. Where it answers RECORD_STORE_REFUSED + RECORD_STORE_FULL, a renewal is due.
+ * Sets the fewest cells that take a record to a value, and answers how many. Of several sets of as few cells it sets
+ * the one whose cells, lowest first, come first in dictionary order, so that every byte afterwards is known. Where
+ * the record has the value already it sets none and answers 0. Where it answers RECORD_STORE_REFUSED +
+ * RECORD_STORE_FULL, a renewal is due.
  */
 uint32_t record_store_put(uint32_t kind, uint32_t parameter, uint32_t n, uint32_t record, uint32_t value, uint8_t *image,
                           size_t length);
 
 /*
  * Erases the page of a record in the image and writes all records of the page again: this one with the value, the others
- * with the values that they had. It answers how many cells it set.
+ * with the values that they had, each from empty by the smallest set of its cells that gives its value, chosen among
+ * several as a put chooses. It answers how many cells it set.
  */
 uint32_t record_store_renew(uint32_t kind, uint32_t parameter, uint32_t n, uint32_t record, uint32_t value, uint8_t *image,
                             size_t length);

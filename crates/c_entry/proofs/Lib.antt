@@ -1,3 +1,4 @@
 pub mod Sizes
 pub mod Entering
 pub mod Together
+pub mod Determined

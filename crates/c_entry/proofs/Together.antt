@@ -1,5 +1,5 @@
 -- Calls from C on one image, as the calls of one store. Assumes nothing.
-use Rattle.std.proofs.Common.{◌≡◌, ℕ, ◌+◌, ◌<◌, List, [], ◌∷◌, ◌++◌, map, All, None, Ok, Err, inl, inr, sym, refl, ap, ◌∙◌, subst, ap₂, arith}
+use Rattle.std.proofs.Common.{◌≡◌, ℕ, ◌+◌, List, [], ◌∷◌, ◌++◌, map, All, Ok, Err, inl, inr, sym, refl, ap, ◌∙◌, subst, ap₂, arith}
 use Rattle.std.proofs.lemmas.List.Elements.{All-nil, All-cons, All-head, All-tail}
 use Rattle.group.specs.Group.{Lawful}
 use Rattle.cells.specs.declared.fault.DeviceFault.TheVariants.{Worn}
@@ -8,7 +8,7 @@ use Rattle.cells.specs.Rows.{Row, Refused, Served}
 use Rattle.images.specs.declared.format.Format.TheVariants.{Flash}
 use Rattle.images.specs.Image.{decoded}
 use Rattle.images.specs.Check.{image_rows}
-use Rattle.images.proofs.Tables.{served_both, served_first, served_rest, refused_first, served_not_refused}
+use Rattle.images.proofs.Tables.{served_both, served_first, served_rest, refused_first}
 use Rattle.coset.specs.Code.{Code, LabelledInTurn}
 use Rattle.calls.specs.declared.call.Call.{Call}
 use Rattle.calls.specs.declared.call.Call.TheVariants.{Get, Put, Renew}
@@ -17,12 +17,13 @@ use Rattle.calls.specs.declared.fault.StoreFault.TheVariants.{NoRecord, NoValue,
 use Rattle.calls.specs.Ledger.{blank}
 use Rattle.calls.specs.Faults.{number}
 use Rattle.calls.specs.Records.{making_rows, page_of}
-use Rattle.calls.specs.Calls.{State, Answer, state_of, record_of, rows, Places, Obeys}
+use Rattle.calls.specs.Calls.{state_of, record_of, rows, Places, Obeys}
 use Rattle.calls.specs.History.{Event, LinkedCells, Every}
 use Rattle.calls.specs.Promise.{Promise}
 use Rattle.calls.proofs.Values.{shape_kept}
+use Rattle.cells.proofs.SameRows.{served_not_refused, refused_once}
 use Rattle.calls.proofs.Singly.{single_calls_suffice}
-use Rattle.c_entry.specs.Entry.{opening_rows, entry_rows, ServedOn, RefusedOn, CallsOnImage}
+use Rattle.c_entry.specs.Entry.{opening_rows, entry_rows, CallsOnImage}
 use Rattle.c_entry.specs.Together.{ImageCall, LinkedBytes, number_for_c, PromiseOnImage, KeepTogether}
 
 -- a refusal that the first table does not give is one by the second
@@ -30,14 +31,6 @@ refused_later : (rs ss : List Row) (k : ℕ) → Served rs → Refused (rs ++ ss
 refused_later [] ss k none refused = refused
 refused_later (r ∷ rs) ss k none (inl here) = absurd (none.0 here.0)
 refused_later (r ∷ rs) ss k none (inr later) = refused_later rs ss k none.1 later.1
-
--- a table refuses by one number
-one_number : (rs : List Row) (j k : ℕ) → Refused rs j → Refused rs k → j ≡ k
-one_number [] j k a b = absurd a
-one_number (r ∷ rs) j k (inl a) (inl b) = a.1 ∙ sym b.1
-one_number (r ∷ rs) j k (inl a) (inr b) = absurd (b.0 a.0)
-one_number (r ∷ rs) j k (inr a) (inl b) = absurd (a.0 b.0)
-one_number (r ∷ rs) j k (inr a) (inr b) = one_number rs j k a.1 b.1
 
 -- the fault of a store by its number, with the record of the call and its page
 fault_for :
@@ -145,8 +138,8 @@ module _ (c : Code) where
       one_refused (inr other) barred = (
         other.2
             ∙ ap (λ j. 10000 + j)
-            (one_number (entry_rows c e.call e.before) other.0 k other.1.refused
-            (refused_first (opening_rows c e.before) (rows c (decoded Flash e.before) e.call) k barred)),
+            (refused_once (entry_rows c e.call e.before) k other.0
+            (refused_first (opening_rows c e.before) (rows c (decoded Flash e.before) e.call) k barred) other.1.refused),
         other.1.unchanged,
       )
 

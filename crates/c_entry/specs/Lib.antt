@@ -1,3 +1,4 @@
 pub mod Faults
 pub mod Entry
 pub mod Together
+pub mod Determined

@@ -1,4 +1,6 @@
-//! What calls from C keep together, on the contract of a function with no code: no caller in C needs it.
+//! What calls from C keep together, and that they are determined, each on the contract of a function with no code: no
+//! caller in C needs it.
+ghost use Rattle.c_entry.specs.Determined.{OneImageCall, ImageCallsAgree};
 ghost use Rattle.c_entry.specs.Together.{ImageCallsSuffice};
 
 /// Calls from C made one after the other on the bytes of one image, with one group and one number of cells to a record,
@@ -6,4 +8,12 @@ ghost use Rattle.c_entry.specs.Together.{ImageCallsSuffice};
 /// where no store can be made, each is refused by one and the same number.
 pub fn image_calls_suffice()
     ensures { ImageCallsSuffice }
+{}
+
+/// With one code, a call from C has one answer and leaves the same bytes, whoever makes it on the same bytes; and so
+/// do the same calls made one after the other, with nothing else writing there. So two users who make the same calls
+/// on equal images have equal images afterwards.
+pub fn image_calls_agree()
+    ensures one { OneImageCall }
+    ensures many { ImageCallsAgree }
 {}

@@ -31,7 +31,7 @@ pub extern "C" fn record_store_get(
     enter(kind, parameter, n, Call::Get { record }, image)
 }
 
-// Sets the fewest cells that take a record to a value, and answers how many.
+// Sets the cells of the plan that takes a record to a value, and answers how many they are.
 #[unsafe(no_mangle)]
 pub extern "C" fn record_store_put(
     kind: u32,
@@ -48,8 +48,8 @@ pub extern "C" fn record_store_put(
     enter(kind, parameter, n, Call::Put { record, value }, image)
 }
 
-// Erases the page of a record, and writes its records again: this one with a new value, the others with theirs.
-// It answers how many cells it set.
+// Erases the page of a record, and writes its records again, each by its plan: this one with a new value, the others
+// with theirs. It answers how many cells it set.
 #[unsafe(no_mangle)]
 pub extern "C" fn record_store_renew(
     kind: u32,

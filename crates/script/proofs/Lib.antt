@@ -6,3 +6,5 @@ pub mod Progress
 pub mod Starting
 pub mod Handing
 pub mod Writing
+pub mod KnownFaults
+pub mod OneText

@@ -9,3 +9,4 @@ pub mod Printing
 pub mod Starting
 pub mod Printers
 pub mod Growing
+pub mod OneText

@@ -4,6 +4,7 @@
 
 mod answer;
 pub mod fault;
+pub mod laws;
 mod lines;
 pub mod output;
 pub mod printer;
