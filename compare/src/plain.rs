@@ -2,7 +2,8 @@
 //!
 //! A record is written several times between two erases by a coset code. Each of its cells has a label, which is an
 //! element of a finite commutative group, and the value of the record is the sum of the labels of its set cells. To
-//! change the value, the fewest unset cells are set whose labels sum to the difference. Nothing here needs a heap.
+//! change the value, the fewest unset cells are set whose labels sum to the difference; of several such sets, the one
+//! whose cells, lowest first, come first in dictionary order. Nothing here needs a heap.
 
 #![forbid(unsafe_code)]
 
@@ -297,13 +298,14 @@ const UNREACHABLE: u8 = u8::MAX;
 /// element.
 struct Reach {
     code: Code,
+    unset: CellSet,
     rows: [[u8; MAX_ORDER]; MAX_CELLS_TO_RECORD + 1],
 }
 
 impl Reach {
     /// Fills the table from the last cell to the first. The row after the last cell knows the empty set alone.
     fn over(code: Code, unset: CellSet) -> Self {
-        let mut reach = Reach { code, rows: [[UNREACHABLE; MAX_ORDER]; MAX_CELLS_TO_RECORD + 1] };
+        let mut reach = Reach { code, unset, rows: [[UNREACHABLE; MAX_ORDER]; MAX_CELLS_TO_RECORD + 1] };
         reach.rows[code.n][0] = 0;
         for cell in (0..code.n).rev() {
             let later = reach.rows[cell + 1];
@@ -312,18 +314,26 @@ impl Reach {
         reach
     }
 
-    /// A smallest set of unset cells that sums to the step, if there is any.
+    /// The plan for a step, if some set of unset cells sums to it: a smallest set, and of these the first in dictionary
+    /// order when the cells of each are named from the lowest up.
+    ///
+    /// The walk names them in that order. It takes each unset cell that begins some smallest set for what remains, as a
+    /// set without that cell names a higher one in its place, and so comes later.
     fn plan(&self, step: Element) -> Option<CellSet> {
         if self.rows[0][step] == UNREACHABLE {
             return None;
         }
         let mut plan = 0;
         let mut remaining = step;
-        for (cell, rows) in self.rows[..=self.code.n].windows(2).enumerate() {
-            // Where the cells after this one do not do as well by themselves, this one belongs to the plan.
-            if rows[0][remaining] < rows[1][remaining] {
+        for (cell, label) in self.code.labels().enumerate().filter(|&(cell, _)| has(self.unset, cell)) {
+            if remaining == 0 {
+                break;
+            }
+            // A cell begins a smallest set where it leaves fewer cells to those after it.
+            let rest = self.code.group.step(label, remaining);
+            if self.rows[cell + 1][rest] < self.rows[cell][remaining] {
                 plan |= 1 << cell;
-                remaining = self.code.group.step(self.code.label(cell), remaining);
+                remaining = rest;
             }
         }
         Some(plan)
@@ -400,7 +410,7 @@ impl Store {
         self.code.value(self.set_cells(image, place))
     }
 
-    /// A smallest set of unset cells of the record that brings it to the target, if there is any.
+    /// The plan that brings a record to the target, if there is any.
     fn plan(&self, image: &[u8], place: Place, target: Element) -> Option<CellSet> {
         let set = self.set_cells(image, place);
         let step = self.code.group.step(self.code.value(set), target);

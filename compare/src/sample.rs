@@ -57,7 +57,7 @@ pub fn set_some_cells(image: &mut [u8], page: usize, sixteenths: u32, random: &m
 }
 
 /// The shape of a good flash image.
-#[derive(Clone, Copy, PartialEq, Eq)]
+#[derive(Clone, Copy)]
 pub struct Shape {
     pub pages: usize,
     /// Cells to a page.
@@ -85,11 +85,5 @@ impl Shape {
     /// The byte that holds a cell, as bit (cell mod 8).
     pub fn byte_of(self, page: usize, cell: usize) -> usize {
         self.page_start(page) + cell / 8
-    }
-
-    /// The wear count of a page.
-    pub fn wear(self, image: &[u8], page: usize) -> u32 {
-        let start = 1 + 4 * page;
-        u32::from_be_bytes([image[start], image[start + 1], image[start + 2], image[start + 3]])
     }
 }

@@ -1,4 +1,5 @@
-//! Compares the C entry under test with the plain version over many pseudo-random calls.
+//! Compares the C entry under test with the plain version over many pseudo-random calls. The rules fix every answer and
+//! every byte of an image, so each call has to get the same answer and to leave the same bytes on both sides.
 //!
 //! The first argument is the seed of the generator, the second one the number of rounds. A round is either a few
 //! unlike calls on one image, good or bad, or a sequence of calls that use up the cells of one image and wear out its
@@ -92,7 +93,7 @@ impl Call {
     }
 }
 
-/// The state of a run: each call starts from the image that the C entry left behind in the call before.
+/// The state of a run: each call starts from the image that the call before left behind.
 struct Run {
     random: Random,
     counts: Counts,
@@ -171,7 +172,7 @@ impl Run {
         Ok(())
     }
 
-    /// Makes one call on both sides, compares them and goes on from the image of the C entry.
+    /// Makes one call on both sides, compares them and goes on from the image that they leave.
     fn compare(&mut self, call: &Call) -> Result<u32, String> {
         if self.trace {
             eprintln!("{call:?} on {}", hex(&self.image));
@@ -191,8 +192,8 @@ impl Run {
         if !by_foreign.is_whole() {
             return Err(format!("bytes outside the image were written\n{call:?}\nimage {}", hex(&self.image)));
         }
-        self.counts.add(call.action, answer, self.image != by_foreign.image());
-        self.image.copy_from_slice(by_foreign.image());
+        self.counts.add(call.action, answer, self.image != by_plain);
+        self.image = by_plain;
         Ok(answer)
     }
 }
@@ -240,75 +241,17 @@ struct Trial<'a> {
 }
 
 impl Trial<'_> {
-    fn judge(&self) -> Result<(), String> {
-        if self.plain_answer != self.foreign_answer {
-            return Err("the answers differ".to_string());
+    /// Whether both sides gave the same answer and left the same bytes. What both might get wrong alike is looked for
+    /// where that costs little.
+    fn judge(&self) -> Result<(), &'static str> {
+        require(self.plain_answer == self.foreign_answer, "the answers differ")?;
+        require(self.plain_after == self.foreign_after, "the images differ")?;
+        let Call { action, code: Code { kind, parameter, n }, record, value } = self.call;
+        if action == Action::Get || self.plain_answer >= REFUSED {
+            return require(self.plain_after == self.before, "a get or a refused call altered the image");
         }
-        for (side, after) in [("plain", self.plain_after), ("C entry", self.foreign_after)] {
-            self.judge_image(after).map_err(|reason| format!("{side}: {reason}"))?;
-        }
-        Ok(())
-    }
-
-    /// Whether an image is what the call may leave behind. The answer is known to be the same on both sides. As the
-    /// plain side counts the fewest cells, an image with so many cells set has the fewest.
-    fn judge_image(&self, after: &[u8]) -> Result<(), &'static str> {
-        if self.call.action == Action::Get || self.plain_answer >= REFUSED {
-            return require(after == self.before, "a get or a refused call altered the image");
-        }
-        require(plain::check(after).is_ok(), "the image is no longer good")?;
-        let shape = Shape::of(self.before);
-        require(Shape::of(after) == shape, "the counts of the image are altered")?;
-        let records = Records::of(self.call.code, shape);
-        match self.call.action {
-            Action::Get => Ok(()),
-            Action::Put => self.judge_put(after, shape, records),
-            Action::Renew => self.judge_renewal(after, shape, records),
-        }
-    }
-
-    /// After an accepted put: only cells of the record changed, from unset to set, as many as the answer says.
-    fn judge_put(&self, after: &[u8], shape: Shape, records: Records) -> Result<(), &'static str> {
-        let Place { page, first } = records.place(self.call.record);
-        let mut expected = self.before.to_vec();
-        let mut marked = 0;
-        for cell in first..first + records.n {
-            let byte = shape.byte_of(page, cell);
-            let bit = 1 << (cell % 8);
-            require(self.before[byte] & bit != 0 || after[byte] & bit == 0, "a set cell of the record is unset")?;
-            marked += u32::from((self.before[byte] ^ after[byte]) & bit != 0);
-            expected[byte] = expected[byte] & !bit | after[byte] & bit;
-        }
-        require(after == expected, "something outside the record is altered")?;
-        require(marked == self.plain_answer, "the answer is not the number of cells marked")?;
-        require(self.value(after, self.call.record) == self.call.value, "the record does not have the value")
-    }
-
-    /// After an accepted renewal: the page holds its values from before and the new one in cells of its records, its
-    /// wear is one higher, and all else is as before.
-    fn judge_renewal(&self, after: &[u8], shape: Shape, records: Records) -> Result<(), &'static str> {
-        let page = records.place(self.call.record).page;
-        let mut expected = self.before.to_vec();
-        expected[1 + 4 * page..5 + 4 * page].copy_from_slice(&(shape.wear(self.before, page) + 1).to_be_bytes());
-        let cells = shape.page_start(page)..shape.page_start(page + 1);
-        expected[cells.clone()].copy_from_slice(&after[cells]);
-        require(after == expected, "something outside the page and its wear count is wrong")?;
-        let is_set = |&cell: &usize| after[shape.byte_of(page, cell)] >> (cell % 8) & 1 == 0;
-        require((records.used_cells()..shape.width).filter(is_set).count() == 0, "a cell outside the records is set")?;
-        let marked = (0..shape.width).filter(is_set).count();
-        require(marked == self.plain_answer as usize, "the answer is not the number of set cells of the page")?;
-        let records_of_page = records.to_page * page as u32..records.to_page * (page as u32 + 1);
-        for record in records_of_page {
-            let named = record == self.call.record;
-            let value = if named { self.call.value } else { self.value(self.before, record) };
-            require(self.value(after, record) == value, "a record of the page has a wrong value")?;
-        }
-        Ok(())
-    }
-
-    fn value(&self, image: &[u8], record: u32) -> u32 {
-        let Code { kind, parameter, n } = self.call.code;
-        plain::get(kind, parameter, n, record, image)
+        let held = plain::get(kind, parameter, n, record, self.plain_after);
+        require(held == value, "the image is not good, or the record does not have the value")
     }
 }
 
@@ -331,36 +274,6 @@ fn hex(bytes: &[u8]) -> String {
         write!(text, "{byte:02X}").expect("a string takes any text");
         text
     })
-}
-
-/// How the records of a code lie on the pages of an image.
-#[derive(Clone, Copy)]
-struct Records {
-    n: usize,
-    to_page: u32,
-}
-
-struct Place {
-    page: usize,
-    first: usize,
-}
-
-impl Records {
-    /// The number of cells to a record is known to be from 1 to the width.
-    fn of(code: Code, shape: Shape) -> Self {
-        let n = code.n as usize;
-        Records { n, to_page: (shape.width / n).min(64) as u32 }
-    }
-
-    fn place(self, record: u32) -> Place {
-        let first = (record % self.to_page) as usize * self.n;
-        Place { page: (record / self.to_page) as usize, first }
-    }
-
-    /// The cells of a page from here on belong to no record.
-    fn used_cells(self) -> usize {
-        self.to_page as usize * self.n
-    }
 }
 
 /// A good image, mostly a small one.
