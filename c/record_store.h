@@ -6,6 +6,7 @@
  *   - the value (get) or the number of cells that it set (put, renew), which is at most 1,024; or
  *   - RECORD_STORE_REFUSED plus the number of the refusal, and then every byte of the image is as it was.
  * Any numbers and any bytes may be given. Nothing is remembered between calls but the image, and nothing is allocated.
+ * The same call on the same bytes has the same answer and leaves the same bytes.
  * Where the image is good and a store can be made, calls on it, one after the other with the same kind, parameter and
  * cells to a record, and with nothing else writing to the image between them, keep together what docs/DATASHEET.md says
  * of changes per erase and of full and worn-out pages.

@@ -1,5 +1,5 @@
 -- Calls from C are determined by what they ask and the bytes that they find. Assumes nothing.
-use Rattle.std.proofs.Common.{◌≡◌, ℕ, ◌+◌, List, [], ◌∷◌, length, get_or, drop, sym, refl, ap, ◌∙◌, subst, subst₂, ap₂, inl, inr, arith}
+use Rattle.std.proofs.Common.{◌≡◌, ℕ, ◌+◌, List, [], ◌∷◌, map, length, get_or, drop, sym, refl, ap, ◌∙◌, subst, subst₂, ap₂, inl, inr, arith}
 use Rattle.std.proofs.lemmas.List.Elements.{All-head, All-tail}
 use Rattle.images.specs.declared.format.Format.TheVariants.{Flash}
 use Rattle.images.specs.Image.{decoded}
@@ -10,8 +10,8 @@ use Rattle.calls.specs.declared.call.Call.{Call}
 use Rattle.cells.proofs.SameRows.{refused_once, served_not_refused}
 use Rattle.calls.proofs.Determined.{served_record, serves_same}
 use Rattle.c_entry.specs.Entry.{entry_rows, CallsOnImage}
-use Rattle.c_entry.specs.Together.{ImageCall, LinkedBytes}
-use Rattle.c_entry.specs.Determined.{OneImageCall, ImageCallsAgree}
+use Rattle.c_entry.specs.Together.{LinkedBytes}
+use Rattle.c_entry.specs.Determined.{OneImageCall, CodedCall, CallsInTurn, ImageCallsAgree}
 
 pub image_call_agrees : OneImageCall
 image_call_agrees c call xs ys ys' a a' (inl s) (inl s') =
@@ -30,27 +30,36 @@ image_call_agrees c call xs ys ys' a a' (inr r) (inr r') = (
 )
 
 -- a call by the rules
-abbrev IsCall : Code → ImageCall → Type 0
-IsCall c e = CallsOnImage c e.call e.before e.after e.answer
+abbrev IsCall : CodedCall → Type 0
+IsCall e = CallsOnImage e.code e.made.call e.made.before e.made.after e.made.answer
 
 -- a call by its parts
-made_of : Call → List ℕ → List ℕ → ℕ → ImageCall
-made_of call xs ys a = record { call = call; before = xs; after = ys; answer = a }
+made_of : Code → Call → List ℕ → List ℕ → ℕ → CodedCall
+made_of c call xs ys a = record { code = c; made = record { call = call; before = xs; after = ys; answer = a } }
 
 pub image_calls_agree : ImageCallsAgree
 unfolding made_of
-image_calls_agree c xs ys ys' [] [] calls linked linked' all all' = (refl, linked' ∙ sym linked)
-image_calls_agree c xs ys ys' [] (e' ∷ es') calls linked linked' all all' = absurd (let no = ap length calls in omega arith)
-image_calls_agree c xs ys ys' (e ∷ es) [] calls linked linked' all all' = absurd (let no = ap length calls in omega arith)
-image_calls_agree c xs ys ys' (e ∷ es) (e' ∷ es') calls linked linked' all all' =
-    let call : e'.call ≡ e.call = ap (λ l. get_or l 0 e.call) calls in
-    let found : e'.before ≡ e.before = linked'.0 ∙ sym linked.0 in
+image_calls_agree xs ys ys' [] [] codes calls turn turn' = (refl, turn'.linked ∙ sym turn.linked)
+image_calls_agree xs ys ys' [] (e' ∷ es') codes calls turn turn' = absurd (let no = ap length calls in omega arith)
+image_calls_agree xs ys ys' (e ∷ es) [] codes calls turn turn' = absurd (let no = ap length calls in omega arith)
+image_calls_agree xs ys ys' (e ∷ es) (e' ∷ es') codes calls turn turn' =
+    let code : e'.code ≡ e.code = ap (λ l. get_or l 0 e.code) codes in
+    let call : e'.made.call ≡ e.made.call = ap (λ l. get_or l 0 e.made.call) calls in
+    let found : e'.made.before ≡ e.made.before = turn'.linked.0 ∙ sym turn.linked.0 in
+    let by : CallsOnImage e.code e'.made.call e'.made.before e'.made.after e'.made.answer =
+    subst (λ c. CallsOnImage c e'.made.call e'.made.before e'.made.after e'.made.answer) code (All-head IsCall e' es' turn'.rules) in
     let one =
-    image_call_agrees c e.call e.before e.after e'.after e.answer e'.answer (All-head (IsCall c) e es all)
-    (subst₂ (λ z b. CallsOnImage c z b e'.after e'.answer) call found (All-head (IsCall c) e' es' all')) in
+    image_call_agrees e.code e.made.call e.made.before e.made.after e'.made.after e.made.answer e'.made.answer (All-head IsCall e es turn.rules)
+    (subst₂ (λ z b. CallsOnImage e.code z b e'.made.after e'.made.answer) call found by) in
     let rest =
-    image_calls_agree c e.after ys ys' es es' (ap (drop 1) calls) linked.1
-    (subst (λ b. LinkedBytes b es' ys') one.1 linked'.1) (All-tail (IsCall c) e es all) (All-tail (IsCall c) e' es' all') in
+    image_calls_agree e.made.after ys ys' es es' (ap (drop 1) codes) (ap (drop 1) calls)
+    (record { linked = turn.linked.1; rules = All-tail IsCall e es turn.rules })
+    (record {
+      linked = subst (λ b. LinkedBytes b (map (λ (x : CodedCall). x.made) es') ys') one.1 turn'.linked.1;
+      rules = All-tail IsCall e' es' turn'.rules;
+    }) in
     let here : e' ≡ e =
-    ap₂ (λ z b. made_of z b e'.after e'.answer) call found ∙ ap₂ (λ l a. made_of e.call e.before l a) one.1 one.0 in
+    ap (λ c. made_of c e'.made.call e'.made.before e'.made.after e'.made.answer) code
+    ∙ ap₂ (λ z b. made_of e.code z b e'.made.after e'.made.answer) call found
+    ∙ ap₂ (λ l a. made_of e.code e.made.call e.made.before l a) one.1 one.0 in
     (ap₂ (λ x l. x ∷ l) here rest.0, rest.1)

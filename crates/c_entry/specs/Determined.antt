@@ -11,12 +11,21 @@ OneImageCall =
     (c : Code) (call : Call) (xs ys ys' : List ℕ) (a a' : ℕ) →
     CallsOnImage c call xs ys a → CallsOnImage c call xs ys' a' → (a' ≡ a) × (ys' ≡ ys)
 
--- The same calls, one after the other on the same bytes, have the same answers, find and leave the same bytes each, and
--- leave one image in the end.
+-- A call from C with the code that its kind, parameter and number of cells name, which each call may choose anew.
+pub record CodedCall : Type 0 where
+  pub code : Code
+  pub made : ImageCall
+
+-- The calls are by the rules, each with its code, one after the other from the bytes xs to the bytes ys.
+pub record CallsInTurn (xs : List ℕ) (es : List CodedCall) (ys : List ℕ) : Type 0 where
+  pub linked : LinkedBytes xs (map (λ (e : CodedCall). e.made) es) ys
+  pub rules : All (λ (e : CodedCall). CallsOnImage e.code e.made.call e.made.before e.made.after e.made.answer) es
+
+-- The same calls with the same codes, one after the other on the same bytes, have the same answers, find and leave the
+-- same bytes each, and leave one image in the end.
 abbrev pub ImageCallsAgree : Type 0
 ImageCallsAgree =
-    (c : Code) (xs ys ys' : List ℕ) (made made' : List ImageCall) →
-    map (λ (e : ImageCall). e.call) made' ≡ map (λ (e : ImageCall). e.call) made →
-    LinkedBytes xs made ys → LinkedBytes xs made' ys' →
-    All (λ (e : ImageCall). CallsOnImage c e.call e.before e.after e.answer) made →
-    All (λ (e : ImageCall). CallsOnImage c e.call e.before e.after e.answer) made' → (made' ≡ made) × (ys' ≡ ys)
+    (xs ys ys' : List ℕ) (es es' : List CodedCall) →
+    map (λ (e : CodedCall). e.code) es' ≡ map (λ (e : CodedCall). e.code) es →
+    map (λ (e : CodedCall). e.made.call) es' ≡ map (λ (e : CodedCall). e.made.call) es →
+    CallsInTurn xs es ys → CallsInTurn xs es' ys' → (es' ≡ es) × (ys' ≡ ys)

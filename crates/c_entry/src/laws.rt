@@ -10,10 +10,10 @@ pub fn image_calls_suffice()
     ensures { ImageCallsSuffice }
 {}
 
-/// With one code, a call from C has one answer and leaves the same bytes, whoever makes it on the same bytes; and so
-/// do the same calls made one after the other, with nothing else writing there. So two users who make the same calls
-/// on equal images have equal images afterwards.
+/// A call from C has one answer and leaves the same bytes, whoever makes it with the same code on the same bytes; and so
+/// do the same calls made one after the other, each with any kind, parameter and number of cells, with nothing else
+/// writing there. So two users who make the same calls on equal images have equal images after each of them.
 pub fn image_calls_agree()
-    ensures one { OneImageCall }
-    ensures many { ImageCallsAgree }
+    ensures single { OneImageCall }
+    ensures list { ImageCallsAgree }
 {}

@@ -5,7 +5,6 @@ use Rattle.cells.specs.declared.array.CellArray.{Ghosts}
 use Rattle.cells.specs.declared.fault.DeviceFault.TheVariants.{NoPage, NoCell, Worn}
 use Rattle.cells.specs.Cells.{Cells, Alike}
 use Rattle.cells.specs.Rows.{Served}
-use Rattle.cells.specs.Chain.{Takes}
 use Rattle.coset.specs.Code.{Code}
 use Rattle.coset.proofs.Sums.{size_agree}
 use Rattle.coset.proofs.OnePlan.{plans_agree, plan_move}
@@ -18,10 +17,10 @@ use Rattle.calls.specs.Records.{records, free, value}
 use Rattle.calls.specs.Faults.{number}
 use Rattle.calls.specs.Ledger.{noted}
 use Rattle.calls.specs.Calls.{State, Answer, rows, record_of, Places, Serves, Obeys}
-use Rattle.calls.specs.History.{Event, Linked, Every}
+use Rattle.calls.specs.History.{Event}
 use Rattle.calls.specs.Promise.{Promise}
-use Rattle.calls.specs.Steps.{refused_steps, steps_of, all_steps}
-use Rattle.calls.specs.Determined.{StatesAgree, CallsAgree, RunsAgree, ListsAgree}
+use Rattle.calls.specs.Steps.{refused_steps, steps_of}
+use Rattle.calls.specs.Determined.{StatesAgree, SameRun, CallsAgree, HistoriesAgree, RunsAgree, ListsAgree}
 use Rattle.calls.proofs.Geometry.{there}
 use Rattle.cells.proofs.SameRows.{rows_back, refused_same, served_same, served_not_refused}
 use Rattle.calls.proofs.SameRecord.{page_too, free_same, value_same, step_same, rows_same}
@@ -122,44 +121,39 @@ calls_agree c call (Err f) (Err f') s t s' t' agree obeys obeys' =
 abbrev calls_in : List Event → List Call
 calls_in = map (λ (e : Event). e.call)
 
-abbrev answers_in : List Event → List Answer
-answers_in = map (λ (e : Event). e.answer)
+pub histories_agree : HistoriesAgree
+histories_agree c [] [] s t s' t' agree calls linked obeys linked' obeys' =
+    record { answers = refl; steps = refl; left = rw (linked, linked') agree }
+histories_agree c [] (e' ∷ h') s t s' t' agree calls linked obeys linked' obeys' =
+    absurd (let no = ap length calls in omega arith)
+histories_agree c (e ∷ h) [] s t s' t' agree calls linked obeys linked' obeys' =
+    absurd (let no = ap length calls in omega arith)
+histories_agree c (e ∷ h) (e' ∷ h') s t s' t' agree calls linked obeys linked' obeys' =
+    let call : e'.call ≡ e.call = ap (λ l. get_or l 0 e.call) calls in
+    let one =
+    calls_agree c e.call e.answer e'.answer e.before e.after e'.before e'.after (rw (linked.0, linked'.0) agree) obeys.0
+    (subst (λ z. Obeys c z e'.answer e'.before e'.after) call obeys'.0) in
+    let rest = histories_agree c h h' e.after t e'.after t' one.left (ap (drop 1) calls) linked.1 obeys.1 linked'.1 obeys'.1 in
+    record {
+      answers = ap₂ (λ a l. a ∷ l) one.answer rest.answers;
+      steps = ap₂ (λ x y. x ++ y) (ap (λ z. steps_of c z e'.answer e'.before.cells e'.after.cells) call ∙ one.steps) rest.steps;
+      left = rest.left;
+    }
 
-module _ (c : Code) where
-  abbrev ByRules : List Event → Type 0
-  ByRules h = Every (λ e. Obeys c e.call e.answer e.before e.after) h
-
-  histories_same :
-      (h h' : List Event) (s t s' t' : State) → StatesAgree s s' → calls_in h' ≡ calls_in h → Linked s h t → Linked s' h' t' →
-      ByRules h → ByRules h' → (answers_in h' ≡ answers_in h) × (all_steps c h' ≡ all_steps c h) × StatesAgree t t'
-  histories_same [] [] s t s' t' agree calls linked linked' obeys obeys' = (refl, refl, rw (linked, linked') agree)
-  histories_same [] (e' ∷ h') s t s' t' agree calls linked linked' obeys obeys' = absurd (let no = ap length calls in omega arith)
-  histories_same (e ∷ h) [] s t s' t' agree calls linked linked' obeys obeys' = absurd (let no = ap length calls in omega arith)
-  histories_same (e ∷ h) (e' ∷ h') s t s' t' agree calls linked linked' obeys obeys' =
-      let call : e'.call ≡ e.call = ap (λ l. get_or l 0 e.call) calls in
-      let one =
-      calls_agree c e.call e.answer e'.answer e.before e.after e'.before e'.after (rw (linked.0, linked'.0) agree) obeys.0
-      (subst (λ z. Obeys c z e'.answer e'.before e'.after) call obeys'.0) in
-      let rest = histories_same h h' e.after t e'.after t' one.left (ap (drop 1) calls) linked.1 linked'.1 obeys.1 obeys'.1 in (
-        ap₂ (λ a l. a ∷ l) one.answer rest.0,
-        ap₂ (λ x y. x ++ y) (ap (λ z. steps_of c z e'.answer e'.before.cells e'.after.cells) call ∙ one.steps) rest.1,
-        rest.2,
-      )
-
-  -- lists of calls with the promise
-  promises_same :
-      (calls calls' : List Call) (answers answers' : List Answer) (first last first' last' : State) → calls' ≡ calls →
-      StatesAgree first first' → (p : Promise c first calls answers last) → (p' : Promise c first' calls' answers' last') →
-      (answers' ≡ answers) × (all_steps c p'.history ≡ all_steps c p.history) × StatesAgree last last'
-  promises_same calls calls' answers answers' first last first' last' e agree p p' =
-      let same =
-      histories_same p.history p'.history first last first' last' agree (p'.its_calls ∙ e ∙ sym p.its_calls) p.linked p'.linked
-      p.obeys p'.obeys in
-      (sym p'.its_answers ∙ same.0 ∙ p.its_answers, same.1, same.2)
+-- lists of calls with the promise
+promises_agree :
+    (c : Code) (calls calls' : List Call) (answers answers' : List Answer) (first last first' last' : State) → calls' ≡ calls →
+    StatesAgree first first' → (p : Promise c first calls answers last) → (p' : Promise c first' calls' answers' last') →
+    SameRun c answers answers' p.history p'.history last last'
+promises_agree c calls calls' answers answers' first last first' last' e agree p p' =
+    let same =
+    histories_agree c p.history p'.history first last first' last' agree (p'.its_calls ∙ e ∙ sym p.its_calls) p.linked p.obeys
+    p'.linked p'.obeys in
+    record { answers = sym p'.its_answers ∙ same.answers ∙ p.its_answers; steps = same.steps; left = same.left }
 
 pub runs_agree : RunsAgree
 runs_agree c calls answers answers' first last first' last' agree p p' =
-    promises_same c calls calls answers answers' first last first' last' refl agree p p'
+    promises_agree c calls calls answers answers' first last first' last' refl agree p p'
 
 -- entries are known by their calls and answers
 module _ {C : Type 0} where
@@ -190,15 +184,13 @@ module _ {C : Type 0} where
 pub lists_agree : {A B : Type 0} (array : Ghosts A) (other : Ghosts B) (C : Type 0) → ListsAgree array other C
 lists_agree array other C c call before after before' after' counted counts counts' asked asked' served served' same alike done done' =
     let agree =
-    promises_same c _ _ done.answers done'.answers _ _ _ _ (asked_same call asked asked' same)
+    promises_agree c _ _ done.answers done'.answers _ _ _ _ (asked_same call asked asked' same)
     (record { cells = alike; ledger = refl }) done.kept.promise done'.kept.promise in
     record {
       entries =
           entries_same served served' (done'.calls_kept ∙ same ∙ sym done.calls_kept)
-          (done'.all_answered ∙ ap (map Some) agree.0 ∙ sym done.all_answered);
-      ledger = agree.2.ledger;
-      cells = agree.2.cells;
-      steps = all_steps c done.kept.promise.history;
-      takes = done.kept.takes;
-      takes' = subst (λ ss. Takes other ss before' after') agree.1 done'.kept.takes;
+          (done'.all_answered ∙ ap (map Some) agree.answers ∙ sym done.all_answered);
+      ledger = agree.left.ledger;
+      cells = agree.left.cells;
+      steps = agree.steps;
     }

@@ -3,13 +3,12 @@
 use Rattle.std.specs.Prelude.{◌≡◌, List, map}
 use Rattle.cells.specs.declared.array.CellArray.{Ghosts}
 use Rattle.cells.specs.Cells.{Alike}
-use Rattle.cells.specs.Steps.{Step}
-use Rattle.cells.specs.Chain.{Takes}
 use Rattle.coset.specs.Code.{Code}
 use Rattle.calls.specs.declared.call.Call.{Call}
 use Rattle.calls.specs.declared.call.Entry.{Entry}
 use Rattle.calls.specs.declared.ledger.Ledger.{Ledger}
 use Rattle.calls.specs.Calls.{State, Answer, Obeys}
+use Rattle.calls.specs.History.{Event, Linked, Every}
 use Rattle.calls.specs.Promise.{Promise}
 use Rattle.calls.specs.Steps.{steps_of, all_steps}
 use Rattle.calls.specs.Lists.{ListServed}
@@ -32,24 +31,37 @@ CallsAgree =
     StatesAgree before before' → Obeys c call a before after → Obeys c call a' before' after' →
     SameCall c call a a' before after before' after'
 
--- The same calls, each list of them with the promise, from states that agree have the same answers. Their histories
--- need the same steps, and end in states that agree.
+-- The same calls had these answers in two runs, with these histories, which left these states. The answers are the same,
+-- both histories need the same steps, and the states agree.
+pub record SameRun (c : Code) (a a' : List Answer) (h h' : List Event) (last last' : State) : Type 0 where
+  pub answers : a' ≡ a
+  pub steps : all_steps c h' ≡ all_steps c h
+  pub left : StatesAgree last last'
+
+-- So it is with the same calls, one after the other by the rules, from states that agree.
+abbrev pub HistoriesAgree : Type 0
+HistoriesAgree =
+    (c : Code) (h h' : List Event) (first last first' last' : State) → StatesAgree first first' →
+    map (λ (e : Event). e.call) h' ≡ map (λ (e : Event). e.call) h →
+    Linked first h last → Every (λ e. Obeys c e.call e.answer e.before e.after) h →
+    Linked first' h' last' → Every (λ e. Obeys c e.call e.answer e.before e.after) h' →
+    SameRun c (map (λ (e : Event). e.answer) h) (map (λ (e : Event). e.answer) h') h h' last last'
+
+-- And so with the same calls, each list of them with the promise, from states that agree.
 abbrev pub RunsAgree : Type 0
 RunsAgree =
     (c : Code) (calls : List Call) (answers answers' : List Answer) (first last first' last' : State) →
     StatesAgree first first' → (p : Promise c first calls answers last) → (p' : Promise c first' calls answers' last') →
-    (answers' ≡ answers) × (all_steps c p'.history ≡ all_steps c p.history) × StatesAgree last last'
+    SameRun c answers answers' p.history p'.history last last'
 
--- A list of entries was served on each of two arrays. The entries are equal afterwards, and so are the ledgers; the
--- cells agree; and both arrays took the same steps.
-pub record SameList {A B C : Type 0} (array : Ghosts A) (other : Ghosts B) (before after : A) (before' after' : B)
-    (served served' : List (Entry C)) (counts counts' : Ledger) : Type 0 where
+-- A list of entries was served on each of two arrays, with these histories. The entries are equal afterwards, and so are
+-- the ledgers; the cells agree. The steps of the histories, which the arrays took, are the same.
+pub record SameList {A B C : Type 0} (c : Code) (array : Ghosts A) (other : Ghosts B) (h h' : List Event)
+    (after : A) (after' : B) (served served' : List (Entry C)) (counts counts' : Ledger) : Type 0 where
   pub entries : served' ≡ served
   pub ledger : counts' ≡ counts
   pub cells : Alike (array.cells after) (other.cells after')
-  pub steps : List Step
-  pub takes : Takes array steps before after
-  pub takes' : Takes other steps before' after'
+  pub steps : all_steps c h' ≡ all_steps c h
 
 -- So it is where two arrays, of any two kinds, begin with cells that agree and with equal ledgers, and the lists have
 -- the same calls.
@@ -59,6 +71,6 @@ ListsAgree {A} {B} array other C =
     (asked asked' served served' : List (Entry C)) →
     map (λ (e : Entry C). e.call) asked' ≡ map (λ (e : Entry C). e.call) asked →
     Alike (array.cells before) (other.cells before') →
-    ListServed array c call before counted asked served after counts →
-    ListServed other c call before' counted asked' served' after' counts' →
-    SameList array other before after before' after' served served' counts counts'
+    (s : ListServed array c call before counted asked served after counts) →
+    (s' : ListServed other c call before' counted asked' served' after' counts') →
+    SameList c array other s.kept.promise.history s'.kept.promise.history after after' served served' counts counts'

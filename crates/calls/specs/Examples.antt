@@ -1,5 +1,5 @@
 -- Examples worked by hand, as statements about the definitions. Assumes nothing.
-use Rattle.std.specs.Prelude.{◌≡◌, ℕ, ◌+◌, ◌-◌, false, ◌||◌, List, [], ◌∷◌, ◌==◌}
+use Rattle.std.specs.Prelude.{◌≡◌, ℕ, ◌+◌, ◌-◌, ◌<◌, ◌≤◌, false, ◌||◌, ◌⊎◌, List, [], ◌∷◌, ◌==◌}
 use Rattle.group.specs.Group.{Group, step, most_halves, figure}
 use Rattle.group.specs.Integers.{integers}
 use Rattle.group.specs.Vectors.{vectors}
@@ -7,7 +7,7 @@ use Rattle.group.specs.Product.{product}
 use Rattle.cells.specs.Cells.{Cells}
 use Rattle.cells.specs.Sets.{Cellset}
 use Rattle.cells.specs.Rows.{Refused, Served}
-use Rattle.coset.specs.Code.{Code, code, cells_of, ComesNoLater, Plan}
+use Rattle.coset.specs.Code.{Code, code, size_of, cells_of, ComesNoLater, Reaches, Plan}
 use Rattle.coset.specs.OnePlan.{SameCells}
 use Rattle.calls.specs.declared.call.Call.{Call}
 use Rattle.calls.specs.declared.call.Call.TheVariants.{Put, Renew}
@@ -28,6 +28,11 @@ one_record c ls = record { pages = 1; width = c.cells; set = λ p i. labelled ls
 abbrev pub array_of : ℕ → ℕ → Cells
 array_of pages width = record { pages = pages; width = width; set = λ p i. false; wear = λ p. 0; limit = 1 }
 
+-- s has the cells of one of these sets of labels
+abbrev pub Listed : Code → Cellset → List (List ℕ) → Type 0
+Listed c s [] = ⊥
+Listed c s (ls ∷ more) = ((i : ℕ) → i < c.cells → s i ≡ labelled ls i) ⊎ Listed c s more
+
 -- The kinds of examples. Of a record of a code, with the cells of some labels set, it …
 pub data Example : Type 0 where
   -- … holds this value
@@ -36,8 +41,10 @@ pub data Example : Type 0 where
   steps : Code → List ℕ → ℕ → ℕ → Example
   -- … has this plan for this target, and no other
   plans : Code → List ℕ → ℕ → List ℕ → Example
-  -- … has these cells set after a put of this value, rising, and no others
-  puts : Code → List ℕ → ℕ → List ℕ → Example
+  -- … has for this target just these sets of unset cells of the fewest cells
+  smallest : Code → List ℕ → ℕ → List (List ℕ) → Example
+  -- … serves this call, answers this number, and has these cells set afterwards, rising, and no others
+  leaves : Code → List ℕ → Call → ℕ → List ℕ → Example
   -- … has these cells set, rising
   lists : Code → List ℕ → List ℕ → Example
   -- of two lists of cells the first comes before the second in dictionary order
@@ -64,13 +71,28 @@ step_to c ls x = step c.group (value c (one_record c ls) 0) x
 abbrev pub IsPlan : Code → List ℕ → ℕ → Cellset → Type 0
 IsPlan c ls x s = Plan c (free c (one_record c ls) 0) (step_to c ls x) s
 
+abbrev pub Leads : Code → List ℕ → ℕ → Cellset → Type 0
+Leads c ls x s = Reaches c (free c (one_record c ls) 0) (step_to c ls x) s
+
+-- s is one of the smallest sets of unset cells that lead to x
+pub record IsSmallest (c : Code) (ls : List ℕ) (x : ℕ) (s : Cellset) : Type 0 where
+  pub leads : Leads c ls x s
+  pub fewest : (t : Cellset) → Leads c ls x t → size_of c s ≤ size_of c t
+
+abbrev pub AllSmallest : Code → List ℕ → ℕ → List (List ℕ) → Type 0
+AllSmallest c ls x [] = Unit {0}
+AllSmallest c ls x (p ∷ ps) = IsSmallest c ls x (labelled p) × AllSmallest c ls x ps
+
 abbrev pub ExampleHolds : Example → Type 0
 ExampleHolds (holds c ls x) = value c (one_record c ls) 0 ≡ x
 ExampleHolds (steps c ls x d) = step_to c ls x ≡ d
 ExampleHolds (plans c ls x p) =
     IsPlan c ls x (labelled p) × ((s : Cellset) → IsPlan c ls x s → SameCells c (labelled p) s)
-ExampleHolds (puts c ls x cells) =
-    (r : ℕ) (after : Cells) → Serves c (Put 0 x) r (one_record c ls) after → cells_of c (after.set 0) ≡ cells
+ExampleHolds (smallest c ls x ps) = AllSmallest c ls x ps × ((s : Cellset) → IsSmallest c ls x s → Listed c s ps)
+ExampleHolds (leaves c ls call r cells) =
+    Served (rows c (one_record c ls) call)
+    × ((answer : ℕ) (after : Cells) → Serves c call answer (one_record c ls) after →
+    (answer ≡ r) × (cells_of c (after.set 0) ≡ cells))
 ExampleHolds (lists c ls cells) = cells_of c (labelled ls) ≡ cells
 ExampleHolds (comes_first xs ys) = ComesNoLater xs ys × (ComesNoLater ys xs → ⊥)
 ExampleHolds (refuses c ls call k) = Refused (rows c (one_record c ls) call) k
@@ -87,9 +109,12 @@ abbrev pub AllHold : List Example → Type 0
 AllHold [] = Unit {0}
 AllHold (e ∷ es) = ExampleHolds e × AllHold es
 
--- the integers modulo 7 with six cells, and modulo 4 with one
+-- the integers modulo 7 with six cells, modulo 3 with four, and modulo 4 with one
 abbrev pub z7 : Code
 z7 = code (integers 7) 6
+
+abbrev pub z3 : Code
+z3 = code (integers 3) 4
 
 abbrev pub z4 : Code
 z4 = code (integers 4) 1
@@ -98,7 +123,9 @@ abbrev pub worked : List Example
 worked =
     holds z7 (1 ∷ (5 ∷ [])) 6 ∷
     (plans z7 [] 3 (3 ∷ []) ∷
+    (smallest z7 (3 ∷ []) 6 ((1 ∷ (2 ∷ [])) ∷ ((4 ∷ (6 ∷ [])) ∷ [])) ∷
     (plans z7 (3 ∷ []) 6 (1 ∷ (2 ∷ [])) ∷
+    (leaves z7 (3 ∷ []) (Put 0 6) 2 (0 ∷ (1 ∷ (2 ∷ []))) ∷
     (holds z7 (4 ∷ (5 ∷ (6 ∷ []))) 1 ∷
     (steps z7 (4 ∷ (5 ∷ (6 ∷ []))) 0 6 ∷
     (plans z7 (4 ∷ (5 ∷ (6 ∷ []))) 0 (1 ∷ (2 ∷ (3 ∷ []))) ∷
@@ -120,11 +147,12 @@ worked =
     (placed_at z7 2 64 13 20 1 18 ∷
     (placed_at (code (integers 2) 1) 64 1024 4095 4096 63 63 ∷
     (placed_at (code (integers 65) 6) 2 64 0 0 0 0 ∷
-    (puts z7 (3 ∷ []) 6 (0 ∷ (1 ∷ (2 ∷ []))) ∷
-    (puts (code (integers 3) 4) [] 1 (0 ∷ []) ∷
+    (plans z3 [] 1 (1 ∷ []) ∷
+    (leaves z3 [] (Put 0 1) 1 (0 ∷ []) ∷
+    (leaves (code (integers 7) 4) (2 ∷ (4 ∷ [])) (Renew 0 5) 2 (0 ∷ (3 ∷ [])) ∷
     (lists z7 (6 ∷ (4 ∷ [])) (3 ∷ (5 ∷ [])) ∷
     (comes_first (0 ∷ (1 ∷ [])) (3 ∷ (5 ∷ [])) ∷
-    (comes_first (0 ∷ (9 ∷ [])) (1 ∷ (2 ∷ [])) ∷ []))))))))))))))))))))))))))))
+    (comes_first (0 ∷ (9 ∷ [])) (1 ∷ (2 ∷ [])) ∷ [])))))))))))))))))))))))))))))))
 
 -- The examples hold.
 abbrev pub Worked : Type 0

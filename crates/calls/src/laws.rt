@@ -1,6 +1,6 @@
 //! Theorems over whole histories of calls, each on the contract of a function of its own.
 //! They speak of the definitions; the calls of a store are to be shown to obey the rules that they start from.
-ghost use Rattle.calls.specs.Determined.{CallsAgree, RunsAgree, ListsAgree};
+ghost use Rattle.calls.specs.Determined.{CallsAgree, HistoriesAgree, RunsAgree, ListsAgree};
 ghost use Rattle.calls.specs.Examples.{Worked};
 ghost use Rattle.calls.specs.Lists.{PairedCellsKnown};
 ghost use Rattle.calls.specs.Promise.{RulesSuffice, SingleCallsSuffice};
@@ -30,8 +30,10 @@ pub fn paired_cells_known<A: CellArray>()
 
 /// One call, and a run of them, is determined: with one code and from states that agree the same calls have the same
 /// answers, a fault with all that it carries included, need the same steps of the array, and end in states that agree.
+/// This is said of one call, of calls one after the other, each by its rules, and of lists of calls with the promise.
 pub fn runs_agree()
     ensures calls { CallsAgree }
+    ensures histories { HistoriesAgree }
     ensures runs { RunsAgree }
 {}
 

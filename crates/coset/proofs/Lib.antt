@@ -2,6 +2,7 @@ pub mod Groups
 pub mod Sums
 pub mod Flags
 pub mod Lists
+pub mod Dictionary
 pub mod OnePlan
 pub mod Beyond
 pub mod Entries

@@ -1,6 +1,6 @@
 -- A plan is one set, which has the lowest cell in which it and another fewest set differ. Assumes nothing.
 use Rattle.std.proofs.Common.{◌≡◌, ℕ, zero, suc, ◌+◌, ◌<◌, ◌≤◌, Bool, true, false, cond, ◌⊎◌, List, [], ◌∷◌, length, get_or, drop, sym, refl, ap, ◌∙◌, inl, inr, arith}
-use Rattle.std.proofs.lemmas.Bool.{both_ways, cases_Bool, cases_eq}
+use Rattle.std.proofs.lemmas.Bool.{both_ways, cases_eq}
 use Rattle.cells.specs.Sets.{Cellset}
 use Rattle.coset.specs.Code.{Code, size_of, cells_of, ComesNoLater, Reaches, Plan}
 use Rattle.coset.specs.OnePlan.{SameCells, PlansAgree, HasLowest, LowestDecides}
@@ -122,15 +122,17 @@ lowest_is_first c free d s lowest t reaches same =
     lowest_first s t 0 c.cells (same_length c s t same)
     (λ j lo hi agree differ. lowest t reaches same j (omega arith) (λ k h. agree k (omega arith) h) differ)
 
+-- of two sets that differ in a cell the one that has it where the other has it has it
+pub has_where_other_has : (a b : Bool) → (b ≡ true → a ≡ true) → (b ≡ a → ⊥) → a ≡ true
+has_where_other_has true b other differ = refl
+has_where_other_has false true other differ = other refl
+has_where_other_has false false other differ = absurd (differ refl)
+
 plan_has_lowest : (c : Code) (free : Cellset) (d : ℕ) (s : Cellset) → Plan c free d s → HasLowest c free d s
-plan_has_lowest c free d s plan t reaches same i h agree differ = go (cases_Bool (s i)) (cases_Bool (t i))
-  where
-    go : (s i ≡ true) ⊎ (s i ≡ false) → (t i ≡ true) ⊎ (t i ≡ false) → s i ≡ true
-    go (inl has) _ = has
-    go (inr lacks) (inr none) = absurd (differ (none ∙ sym lacks))
-    go (inr lacks) (inl member) =
-        first_lowest s t 0 c.cells (same_length c s t same) (plan.first t reaches same) i (omega arith) (omega arith)
-        (λ k lo below. agree k below) member
+plan_has_lowest c free d s plan t reaches same i h agree differ =
+    has_where_other_has (s i) (t i)
+    (first_lowest s t 0 c.cells (same_length c s t same) (plan.first t reaches same) i (omega arith) (omega arith) (λ k lo below. agree k below))
+    differ
 
 pub lowest_decides : LowestDecides
 lowest_decides c free d s reaches fewest = (

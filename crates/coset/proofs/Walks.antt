@@ -1,5 +1,5 @@
 -- The walk through the planner's table, which ends with the plan. Assumes nothing.
-use Rattle.std.proofs.Common.{◌≡◌, ℕ, ◌+◌, ◌-◌, ◌<◌, ◌≤◌, min, Bool, true, false, cond, not, ◌&&◌, ◌||◌, eqb, ◌⊎◌, sym, refl, ap, ◌∙◌, inl, inr, arith}
+use Rattle.std.proofs.Common.{◌≡◌, ℕ, zero, suc, ◌+◌, ◌-◌, ◌<◌, ◌≤◌, min, Bool, true, false, cond, not, ◌&&◌, ◌||◌, eqb, ◌⊎◌, sym, refl, ap, ◌∙◌, subst, inl, inr, arith}
 use Rattle.std.proofs.lemmas.Bool.{cases_Bool, cases_eq, cases_lt, eq-eqb, ne_eqb, eqb-true, and_parts, and_from, or_cases, or_left, or_right, not-true, not_from_false, both_ways}
 use Rattle.group.specs.Group.{Group, Lawful, Usable, In, step}
 use Rattle.cells.specs.Sets.{Cellset, size_below}
@@ -10,7 +10,7 @@ use Rattle.coset.specs.declared.planner.Table.{Table}
 use Rattle.coset.proofs.Groups.{step_in, step_leads, step_only, sum_zero}
 use Rattle.coset.proofs.Sums.{Agree, Apart, only, either, label_in, sum_in, sum_agree, sum_either, sum_only, size_agree, size_either, size_only}
 use Rattle.coset.proofs.Beyond.{sum_empty, size_empty}
-use Rattle.coset.proofs.OnePlan.{lowest_is_first}
+use Rattle.coset.proofs.OnePlan.{has_where_other_has, lowest_is_first}
 use Rattle.coset.proofs.Entries.{turn_in, without, size_without, From, from_without, rest_without, entry_least}
 
 -- The walk to d stands before cell i: it has chosen cells before i, and the cells from i on are to sum to the rest.
@@ -200,7 +200,7 @@ module _ (g : Group) (laws : Lawful g) (usable : Usable g) (n : ℕ) (free : Cel
         first t reaches few j h same member (inr ne) = walked.first t reaches few j (omega arith) same member
 
     -- once the rest is 0, no cell is better taken
-    pub walk_rests : rest ≡ 0 → Walked g n free table d (i + 1) chosen rest
+    walk_rests : rest ≡ 0 → Walked g n free table d (i + 1) chosen rest
     walk_rests at_end = walk_leaves (λ is_free best. let here = ap (fewest_at table i) at_end ∙ none_left in omega arith)
       where
         none : Cellset
@@ -225,12 +225,9 @@ module _ (g : Group) (laws : Lawful g) (usable : Usable g) (n : ℕ) (free : Cel
             omega arith
 
     walk_lowest : HasLowest (code g n) free d chosen
-    walk_lowest t reaches same j h agree differ = go (cases_Bool (chosen j)) (cases_Bool (t j))
-      where
-        go : (chosen j ≡ true) ⊎ (chosen j ≡ false) → (t j ≡ true) ⊎ (t j ≡ false) → chosen j ≡ true
-        go (inl has) _ = has
-        go (inr lacks) (inr none) = absurd (differ (none ∙ sym lacks))
-        go (inr lacks) (inl member) = let sizes = walked.sizes in walked.first t reaches (omega arith) j (omega arith) agree member
+    walk_lowest t reaches same j h agree differ =
+        let sizes = walked.sizes in
+        has_where_other_has (chosen j) (t j) (walked.first t reaches (omega arith) j (omega arith) agree) differ
 
     pub walk_ends : Plan (code g n) free d chosen
     walk_ends = record {
@@ -246,3 +243,18 @@ module _ (g : Group) (laws : Lawful g) (usable : Usable g) (n : ℕ) (free : Cel
           omega (arith, ap (λ z. fewest_at table 0 z) reaches.sums);
       first = lowest_is_first (code g n) free d chosen walk_lowest;
     }
+
+  -- Where nothing is left before the last cell, the cells from there on are left out, and the chosen cells are the plan.
+  rests_to_end :
+      (k i : ℕ) (chosen : Cellset) (rest : ℕ) → i + k ≡ n → rest ≡ 0 → Walked g n free table d i chosen rest →
+      Walked g n free table d n chosen rest
+  rests_to_end zero i chosen rest end done walked =
+      subst (λ j. Walked g n free table d j chosen rest) (omega arith) walked
+  rests_to_end (suc k) i chosen rest end done walked =
+      rests_to_end k (i + 1) chosen rest (omega arith) done (walk_rests i (omega arith) chosen rest walked done)
+
+  pub walk_stops :
+      (i : ℕ) → i < n → (chosen : Cellset) (rest : ℕ) → rest ≡ 0 → Walked g n free table d i chosen rest →
+      Plan (code g n) free d chosen
+  walk_stops i inside chosen rest done walked =
+      walk_ends n refl chosen rest (rests_to_end (n - i) i chosen rest (omega arith) done walked)

@@ -1,5 +1,5 @@
 -- That a plan is one set, and by which cell it is told from the others. Assumes nothing.
-use Rattle.std.specs.Prelude.{◌≡◌, ℕ, ◌<◌, ◌≤◌, ◌↔◌, true}
+use Rattle.std.specs.Prelude.{◌≡◌, ◌≢◌, ℕ, ◌<◌, ◌≤◌, ◌↔◌, true}
 use Rattle.cells.specs.Sets.{Cellset}
 use Rattle.coset.specs.Code.{Code, size_of, Reaches, Plan}
 
@@ -17,7 +17,7 @@ PlansAgree =
 abbrev pub HasLowest : Code → Cellset → ℕ → Cellset → Type 0
 HasLowest c free d s =
     (t : Cellset) → Reaches c free d t → size_of c t ≡ size_of c s →
-    (i : ℕ) → i < c.cells → ((j : ℕ) → j < i → t j ≡ s j) → (t i ≡ s i → ⊥) → s i ≡ true
+    (i : ℕ) → i < c.cells → ((j : ℕ) → j < i → t j ≡ s j) → t i ≢ s i → s i ≡ true
 
 -- A smallest set is the plan if, and only if, it has the lowest cell in which it and another smallest set differ.
 abbrev pub LowestDecides : Type 0

@@ -1,14 +1,14 @@
-// Sets of the cells of one record, by a bit for each cell.
-// A record has at most 63 cells, so no cell from 63 on is ever in a set.
+//! Sets of the cells of one record, by a bit for each cell.
+//! A record has at most 63 cells, so no cell from 63 on is ever in a set.
 ghost use Rattle.std.specs.Prelude.{◌<◌};
 
-// the most cells that a record has
+/// The most cells that a record has.
 pub const MAX_CELLS: usize = 63;
 
 // a bit for each of these cells
 const ALL: u64 = u64::MAX >> 1;
 
-// Memory of a fixed size, since a put may not fail for want of it.
+/// A set of cells, each below 63. It has memory of a fixed size, since a put may not fail for want of it.
 #[derive(Clone, Copy, PartialEq, Debug)]
 pub struct CellSet {
     bits: u64,
@@ -32,13 +32,14 @@ impl CellSet {
     ghost use Rattle.std.specs.Slice.Scan.{IsFirstPlace};
     ghost use Rattle.coset.specs.CellSets.{members_of};
 
+    /// The set with no cell.
     pub const fn empty() -> Self
         ensures { (i : ℕ) → members_of result i ≡ false }
     {
         CellSet { bits: 0 }
     }
 
-    // whether a cell is in the set; of any cell at all
+    /// Whether a cell is in the set; any number may be asked for.
     pub fn contains(&self, cell: usize) -> bool
         ensures { result ≡ members_of self.now cell }
     {
@@ -57,7 +58,7 @@ impl CellSet {
         if first < MAX_CELLS { first.min(to) } else { to }
     }
 
-    // A cell from 63 on is not taken.
+    /// Puts a cell into the set. A cell from 63 on is not taken, and the set is then as it was.
     pub fn insert(&mut self, cell: usize)
         ensures taken { cell < 63 → (i : ℕ) → members_of self.new i ≡ (members_of self.old i || i == cell) }
         ensures refused { 63 ≤ cell → self.new ≡ self.old }
@@ -65,7 +66,7 @@ impl CellSet {
         self.assign(cell, true);
     }
 
-    // Puts a cell into the set, or takes it out. A cell from 63 on is not taken.
+    /// Puts a cell into the set, or takes it out. A cell from 63 on is not taken, and the set is then as it was.
     pub fn assign(&mut self, cell: usize, member: bool)
         ensures taken { cell < 63 → (i : ℕ) → members_of self.new i ≡ (if i == cell then member else members_of self.old i) }
         ensures refused { 63 ≤ cell → self.new ≡ self.old }
@@ -80,7 +81,7 @@ impl CellSet {
         }
     }
 
-    // the cells that are not in the set
+    /// The cells below 63 that are not in the set.
     pub fn complement(&self) -> Self
         ensures { (i : ℕ) → i < 63 → members_of result i ≡ not (members_of self.now i) }
     {

@@ -1,5 +1,4 @@
 //! Whole scripts: what is printed of calls that follow each other.
-//! Every put and renewal of them has one plan, so all that they print is fixed.
 use crate::scripts::*;
 use std::test::Fail;
 

@@ -13,9 +13,6 @@ use Rattle.coset.proofs.OnePlan.{plan_move}
 use Rattle.calls.proofs.Geometry.{There, there, place_within}
 
 -- what is free may be told by any test that agrees on the cells
-pub plan_free : (c : Code) (f h : Cellset) (d : ℕ) (s : Cellset) → Agree f h c.cells → Plan c f d s → Plan c h d s
-plan_free c f h d s same plan = plan_move c f h d d s same refl plan
-
 pub unreachable_free : (c : Code) (f h : Cellset) (d : ℕ) → Agree f h c.cells → Unreachable c f d → Unreachable c h d
 unreachable_free c f h d same none s r = none s (record { within = λ i lt m. same i lt ∙ r.within i lt m; sums = r.sums })
 

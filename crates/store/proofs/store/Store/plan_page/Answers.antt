@@ -1,13 +1,13 @@
-use Rattle.std.proofs.Common.{◌≡◌, ◌/◌, ◌%◌, not, sym, ap, ◌∙◌, subst, arith}
+use Rattle.std.proofs.Common.{◌≡◌, ◌/◌, ◌%◌, not, sym, refl, ap, ◌∙◌, subst, arith}
 use Rattle.std.proofs.lemmas.Bool.{cond-true, cond-false, eq-eqb, ne_eqb}
 use Rattle.coset.specs.Code.{code, every, Plan}
 use Rattle.coset.specs.CellSets.{members_of}
+use Rattle.coset.proofs.OnePlan.{plan_move}
 use Rattle.calls.proofs.Geometry.{there}
 use Rattle.store.specs.Parts.{target, PlansOfPage}
 use Rattle.store.proofs.Paging.{page_more, page_fits, rows_within}
 use Rattle.store.proofs.Renewing.{records_to_page}
 use Rattle.store.proofs.Located.{located_is}
-use Rattle.store.proofs.Serving.{plan_free}
 use Rattle.store.proofs.store.Store.plan_page.Goals as goal
 use Rattle.store.proofs.store.Store.plan_page.Goals.{then-r-record, else-r-record+in_ok-target}
 
@@ -44,8 +44,8 @@ loop-r-preserved g c =
     rw c.push.ensures.items
     (page_more co m page named c.args.value c.loop-r.r c.loop-r.plans.items plan c.loop-r.invariant
     (subst (λ d. Plan co every d (members_of plan)) is
-    (plan_free co (members_of c.complement-all.result) every c.if-r-record.target (members_of plan)
-    (λ i h. c.complement-all.ensures i (omega arith) ∙ ap not (c.empty.ensures i)) c.in-Some.ensures.0)))
+    (plan_move co (members_of c.complement-all.result) every c.if-r-record.target c.if-r-record.target (members_of plan)
+    (λ i h. c.complement-all.ensures i (omega arith) ∙ ap not (c.empty.ensures i)) refl c.in-Some.ensures.0)))
 
 pub returns : goal.returns
 returns g c =
