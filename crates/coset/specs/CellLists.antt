@@ -24,8 +24,8 @@ pub record ComesBefore (xs ys : List ℕ) : Type 0 where
 abbrev pub FirstPlaceDecides : Type 0
 FirstPlaceDecides = (xs ys : List ℕ) → ComesNoLater xs ys ↔ ((xs ≡ ys) ⊎ ComesBefore xs ys)
 
--- Dictionary order is a total order: of any two lists one comes no later than the other, and where each does they are
--- one; and what comes no later than a list comes no later than those that the list comes no later than.
+-- Dictionary order is a total order: of any two lists one comes no later than the other; where each does, they are one;
+-- and it is transitive.
 pub record TotalOrder : Type 0 where
   pub total : (xs ys : List ℕ) → ComesNoLater xs ys ⊎ ComesNoLater ys xs
   pub antisymmetric : (xs ys : List ℕ) → ComesNoLater xs ys → ComesNoLater ys xs → xs ≡ ys
