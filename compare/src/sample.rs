@@ -72,6 +72,11 @@ impl Shape {
         Shape { pages, width: usize::from(image[counts]) << 8 | usize::from(image[counts + 1]) }
     }
 
+    /// Records of so many cells that a page holds.
+    pub fn records_to_page(self, n: u32) -> u32 {
+        (self.width as u32 / n).min(64)
+    }
+
     /// Bytes to a page.
     pub fn page_length(self) -> usize {
         self.width.div_ceil(8)

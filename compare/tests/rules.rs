@@ -1,5 +1,6 @@
 //! The plain version against examples worked by hand and against a search of all sets of cells.
 
+use compare::code::{order, CellSet, Code};
 use compare::plain::{check, get, put, renew, Fault, Layout};
 use compare::sample::{erased_image, Random};
 
@@ -103,17 +104,8 @@ fn renewal_of_a_page() {
 }
 
 /// The numbers of the cells, rising.
-fn members(cells: u32) -> Vec<usize> {
-    (0..32).filter(|cell| cells >> cell & 1 == 1).collect()
-}
-
-/// Of all sets of unset cells that lead from the value of the set cells to the target, one of the fewest cells, and of
-/// these the first in dictionary order.
-fn plan_by_search(sum: impl Fn(u32, u32) -> u32, labels: &[u32], set: u32, target: u32) -> Option<u32> {
-    let value = |cells: u32| members(cells).into_iter().fold(0, |value, cell| sum(value, labels[cell]));
-    let sets = (0..1 << labels.len()).filter(|cells| cells & set == 0);
-    let fitting = sets.filter(|&cells| value(cells | set) == target);
-    fitting.min_by_key(|&cells| (cells.count_ones(), members(cells)))
+fn members(cells: CellSet) -> Vec<usize> {
+    (0..64).filter(|cell| cells >> cell & 1 == 1).collect()
 }
 
 #[test]
@@ -122,18 +114,16 @@ fn puts_and_renewals_against_a_search() {
     for _ in 0..20_000 {
         let kind = random.between(0, 1);
         let parameter = if kind == INTEGERS { random.between(2, 20) } else { random.between(1, 5) };
-        let order = if kind == INTEGERS { parameter } else { 1 << parameter };
-        let sum = |a: u32, b: u32| if kind == INTEGERS { (a + b) % order } else { a ^ b };
         let n = random.between(1, 10);
-        let labels: Vec<u32> = (0..n).map(|cell| 1 + cell % (order - 1)).collect();
-        let set = random.number() & random.number() & ((1 << n) - 1);
-        let target = random.between(0, order - 1);
+        let code = Code { kind, parameter, n };
+        let set = random.word() & random.word() & ((1 << n) - 1);
+        let target = random.between(0, order(kind, parameter) - 1);
         let mut image = record_with(n as u16, &members(set));
-        if let Some(plan) = plan_by_search(sum, &labels, set, target) {
+        if let Some(plan) = code.plan(set, target) {
             assert_eq!(renew(kind, parameter, n, 0, target, &mut image), 10_043);
             assert_eq!(put(kind, parameter, n, 0, target, &mut image), plan.count_ones());
             assert_eq!(set_cells(&image), members(set | plan));
-        } else if let Some(plan) = plan_by_search(sum, &labels, 0, target) {
+        } else if let Some(plan) = code.plan(0, target) {
             assert_eq!(put(kind, parameter, n, 0, target, &mut image), 10_042);
             assert_eq!(renew(kind, parameter, n, 0, target, &mut image), plan.count_ones());
             assert_eq!(set_cells(&image), members(plan));

@@ -11,9 +11,11 @@
 use std::collections::BTreeMap;
 use std::fmt::{self, Write};
 use std::hint::black_box;
+use std::ops::Range;
 use std::process::ExitCode;
 use std::time::Instant;
 
+use compare::code::{order, CellSet, Code};
 use compare::sample::{erased_image, set_some_cells, Random, Shape};
 use compare::{foreign, plain};
 
@@ -55,14 +57,6 @@ enum Action {
 }
 
 const ACTIONS: [Action; 3] = [Action::Get, Action::Put, Action::Renew];
-
-/// The arguments that name a code.
-#[derive(Clone, Copy, Debug)]
-struct Code {
-    kind: u32,
-    parameter: u32,
-    n: u32,
-}
 
 #[derive(Clone, Copy, Debug)]
 struct Call {
@@ -241,18 +235,75 @@ struct Trial<'a> {
 }
 
 impl Trial<'_> {
-    /// Whether both sides gave the same answer and left the same bytes. What both might get wrong alike is looked for
-    /// where that costs little.
+    /// Whether both sides gave the same answer and left the same bytes, and whether these are as the rules ask, since
+    /// both sides might be wrong alike. A refused call and a get alter nothing, and a get answers the value. An accepted
+    /// put sets the plan in its record. An accepted renewal erases the page, which wears it by one, and sets the plan in
+    /// each record of the page. Either alters nothing else, answers how many cells it set, and leaves a good image.
+    /// Whether the right calls are refused, and by the right number, is not looked into.
     fn judge(&self) -> Result<(), &'static str> {
         require(self.plain_answer == self.foreign_answer, "the answers differ")?;
         require(self.plain_after == self.foreign_after, "the images differ")?;
-        let Call { action, code: Code { kind, parameter, n }, record, value } = self.call;
-        if action == Action::Get || self.plain_answer >= REFUSED {
-            return require(self.plain_after == self.before, "a get or a refused call altered the image");
+        let Call { action, code, record, .. } = self.call;
+        let refused = self.plain_answer >= REFUSED;
+        if refused || action == Action::Get {
+            require(self.plain_after == self.before, "a get or a refused call altered the image")?;
         }
-        let held = plain::get(kind, parameter, n, record, self.plain_after);
-        require(held == value, "the image is not good, or the record does not have the value")
+        match action {
+            _ if refused => Ok(()),
+            Action::Get => require(self.plain_answer == self.value_before(record), "the answer is not the value"),
+            Action::Put => self.judge_marks(self.before, record..record + 1),
+            Action::Renew => {
+                let to_page = Shape::of(self.before).records_to_page(code.n);
+                let page = record / to_page;
+                self.judge_marks(&erased(self.before, page as usize), page * to_page..(page + 1) * to_page)
+            }
+        }
     }
+
+    /// Whether the plans of these records are what was set since the start, and nothing else was altered. The start is
+    /// the image before the call or, for a renewal, the one that the erase leaves.
+    fn judge_marks(&self, start: &[u8], records: Range<u32>) -> Result<(), &'static str> {
+        require(plain::check(self.plain_after).is_ok(), "the image is no longer good")?;
+        let marked = records.map(|record| self.judge_record(start, record)).sum::<Result<u32, _>>()?;
+        require(marked == self.plain_answer, "the answer is not the number of cells set")?;
+        let altered: u32 = start.iter().zip(self.plain_after).map(|(old, new)| (old ^ new).count_ones()).sum();
+        require(marked == altered, "something else than unset cells of the records is altered")
+    }
+
+    /// Whether the cells set in a record since the start are the plan, as a search finds it, for the value of the call
+    /// or, if the call does not name the record, for the record's value from before. Answers how many they are.
+    fn judge_record(&self, start: &[u8], record: u32) -> Result<u32, &'static str> {
+        let Call { code, record: named, value, .. } = self.call;
+        let target = if record == named { value } else { self.value_before(record) };
+        let set = self.set_cells(start, record);
+        let marked = self.set_cells(self.plain_after, record) & !set;
+        require(code.plan(set, target) == Some(marked), "the cells set in a record are not the plan for its value")?;
+        Ok(marked.count_ones())
+    }
+
+    fn value_before(&self, record: u32) -> u32 {
+        self.call.code.value(self.set_cells(self.before, record))
+    }
+
+    /// The set cells of a record in an image of the same pages and width as the one before.
+    fn set_cells(&self, image: &[u8], record: u32) -> CellSet {
+        let shape = Shape::of(self.before);
+        let n = self.call.code.n;
+        let to_page = shape.records_to_page(n);
+        let (page, first) = ((record / to_page) as usize, (record % to_page * n) as usize);
+        let is_set = |cell: usize| image[shape.byte_of(page, cell)] >> (cell % 8) & 1 == 0;
+        (0..n as usize).filter(|cell| is_set(first + cell)).fold(0, |set, cell| set | 1 << cell)
+    }
+}
+
+/// The image that the erase of a page leaves.
+fn erased(image: &[u8], page: usize) -> Vec<u8> {
+    let mut image = image.to_vec();
+    let wear: &mut [u8; 4] = image[1 + 4 * page..].first_chunk_mut().expect("a wear count has four bytes");
+    *wear = (u32::from_be_bytes(*wear) + 1).to_be_bytes();
+    let shape = Shape::of(&image);
+    image[shape.page_start(page)..shape.page_start(page + 1)].fill(0xFF);
+    image
 }
 
 impl fmt::Display for Trial<'_> {
@@ -472,14 +523,6 @@ fn any_code(width: usize, random: &mut Random) -> Code {
     code
 }
 
-/// The order of a group, or some number if the group is unusable.
-fn order(kind: u32, parameter: u32) -> u32 {
-    match kind {
-        1 => 1 << parameter.min(6),
-        _ => parameter,
-    }
-}
-
 fn any_call(code: Code, shape: Shape, random: &mut Random) -> Call {
     let action = ACTIONS[random.pick(&[0, 1, 1, 1, 2, 2])];
     let record = any_record(code, shape, random);
@@ -488,8 +531,7 @@ fn any_call(code: Code, shape: Shape, random: &mut Random) -> Call {
 
 /// A record, mostly one of few, at times at the edge or out of range.
 fn any_record(code: Code, shape: Shape, random: &mut Random) -> u32 {
-    let n = code.n.clamp(1, 63) as usize;
-    let to_page = (shape.width / n).min(64) as u32;
+    let to_page = shape.records_to_page(code.n.clamp(1, 63));
     let records = shape.pages as u32 * to_page;
     let last = records.saturating_sub(1);
     match random.between(0, 63) {
