@@ -44,8 +44,8 @@ impl Code {
         (0..=unset.len()).find_map(|size| self.first_list(size, &unset, value, target))
     }
 
-    /// Tries the lists of so many of the cells, lowest first, in dictionary order. Answers the first one that leads from
-    /// the value to the target.
+    /// Tries the lists of so many of the cells, lowest first, in dictionary order. Answers the first one that leads
+    /// from the value to the target.
     fn first_list(self, size: usize, cells: &[u32], value: u32, target: u32) -> Option<CellSet> {
         if size == 0 {
             return (value == target).then_some(0);

@@ -1,5 +1,6 @@
 //! Compares the C entry under test with the plain version over many pseudo-random calls. The rules fix every answer and
-//! every byte of an image, so each call has to get the same answer and to leave the same bytes on both sides.
+//! every byte of an image, so each call has to get the same answer and to leave the same bytes on both sides. What an
+//! accepted call leaves is held besides against plans that are found by a search, apart from both.
 //!
 //! The first argument is the seed of the generator, the second one the number of rounds. A round is either a few
 //! unlike calls on one image, good or bad, or a sequence of calls that use up the cells of one image and wear out its
@@ -236,21 +237,22 @@ struct Trial<'a> {
 
 impl Trial<'_> {
     /// Whether both sides gave the same answer and left the same bytes, and whether these are as the rules ask, since
-    /// both sides might be wrong alike. A refused call and a get alter nothing, and a get answers the value. An accepted
-    /// put sets the plan in its record. An accepted renewal erases the page, which wears it by one, and sets the plan in
-    /// each record of the page. Either alters nothing else, answers how many cells it set, and leaves a good image.
-    /// Whether the right calls are refused, and by the right number, is not looked into.
+    /// both sides might be wrong alike. A refused call and a get alter nothing, and a get answers the value. An
+    /// accepted put sets the plan in its record. An accepted renewal erases the page, which wears it by one, and sets
+    /// the plan in each record of the page. Either alters nothing else, answers how many cells it set, and leaves a
+    /// good image. Whether the right calls are refused, and by the right number, is not looked into.
     fn judge(&self) -> Result<(), &'static str> {
         require(self.plain_answer == self.foreign_answer, "the answers differ")?;
         require(self.plain_after == self.foreign_after, "the images differ")?;
         let Call { action, code, record, .. } = self.call;
-        let refused = self.plain_answer >= REFUSED;
-        if refused || action == Action::Get {
-            require(self.plain_after == self.before, "a get or a refused call altered the image")?;
+        if self.plain_answer >= REFUSED {
+            return require(self.plain_after == self.before, "a refused call altered the image");
         }
         match action {
-            _ if refused => Ok(()),
-            Action::Get => require(self.plain_answer == self.value_before(record), "the answer is not the value"),
+            Action::Get => {
+                require(self.plain_after == self.before, "a get altered the image")?;
+                require(self.plain_answer == self.value_before(record), "the answer is not the value")
+            }
             Action::Put => self.judge_marks(self.before, record..record + 1),
             Action::Renew => {
                 let to_page = Shape::of(self.before).records_to_page(code.n);
@@ -267,7 +269,7 @@ impl Trial<'_> {
         let marked = records.map(|record| self.judge_record(start, record)).sum::<Result<u32, _>>()?;
         require(marked == self.plain_answer, "the answer is not the number of cells set")?;
         let altered: u32 = start.iter().zip(self.plain_after).map(|(old, new)| (old ^ new).count_ones()).sum();
-        require(marked == altered, "something else than unset cells of the records is altered")
+        require(marked == altered, "something other than unset cells of the records is altered")
     }
 
     /// Whether the cells set in a record since the start are the plan, as a search finds it, for the value of the call

@@ -10,8 +10,8 @@ pub fn image_calls_suffice()
     ensures { ImageCallsSuffice }
 {}
 
-/// A call from C has one answer and leaves the same bytes, whoever makes it with the same code on the same bytes; and so
-/// do the same calls made one after the other, each with any kind, parameter and number of cells, with nothing else
+/// A call from C has one answer and leaves the same bytes, whoever makes it with the same code on the same bytes; and
+/// so do the same calls made one after the other, each with any kind, parameter and number of cells, with nothing else
 /// writing there. So two users who make the same calls on equal images have equal images after each of them.
 pub fn image_calls_agree()
     ensures single { OneImageCall }

@@ -31,8 +31,8 @@ CallsAgree =
     StatesAgree before before' → Obeys c call a before after → Obeys c call a' before' after' →
     SameCall c call a a' before after before' after'
 
--- The same calls had these answers in two runs, with these histories, which left these states. The answers are the same,
--- both histories need the same steps, and the states agree.
+-- The same calls had these answers in two runs, with these histories, which left these states. The answers are the
+-- same, both histories need the same steps, and the states agree.
 pub record SameRun (c : Code) (a a' : List Answer) (h h' : List Event) (last last' : State) : Type 0 where
   pub answers : a' ≡ a
   pub steps : all_steps c h' ≡ all_steps c h
@@ -54,8 +54,8 @@ RunsAgree =
     StatesAgree first first' → (p : Promise c first calls answers last) → (p' : Promise c first' calls answers' last') →
     SameRun c answers answers' p.history p'.history last last'
 
--- A list of entries was served on each of two arrays, with these histories. The entries are equal afterwards, and so are
--- the ledgers; the cells agree. The steps of the histories, which the arrays took, are the same.
+-- A list of entries was served on each of two arrays, with these histories. The entries are equal afterwards, and so
+-- are the ledgers; the cells agree. The steps of the histories, which the arrays took, are the same.
 pub record SameList {A B C : Type 0} (c : Code) (array : Ghosts A) (other : Ghosts B) (h h' : List Event)
     (after : A) (after' : B) (served served' : List (Entry C)) (counts counts' : Ledger) : Type 0 where
   pub entries : served' ≡ served

@@ -4,7 +4,7 @@ use Rattle.std.specs.List.Sorted.{IsStrictlyIncreasing}
 use Rattle.cells.specs.Sets.{Cellset}
 use Rattle.coset.specs.Code.{Code, size_of, cells_of, ComesNoLater}
 
--- The list has the cells of a record that are in s and no others, each once, lowest first.
+-- The list has the cells of a record that are in s and no others, each once, lowest first, so as many as there are.
 pub record ListsCells (c : Code) (s : Cellset) (cells : List ℕ) : Type 0 where
   pub has : (i : ℕ) → Contains cells i ↔ ((i < c.cells) × (s i ≡ true))
   pub rising : IsStrictlyIncreasing cells

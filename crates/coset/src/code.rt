@@ -13,7 +13,7 @@ use group::interface::Group;
 /// them, `check_making` of the store refuses them.
 #[derive(Clone, Copy, Drop)]
 pub struct Code<G> {
-    /// its elements are the labels and the values
+    /// its elements are the values, and those other than 0 the labels
     pub group: G,
     /// the number of cells to a record
     pub cells: usize,
@@ -41,7 +41,6 @@ impl<G: Group> Code<G> {
     }
 
     /// What the labels of the cells of a set sum to, of those that a record has; 0 where it has none of them.
-    //
     // A loop from each cell of the set to the next: a chain over all cells branches at each, and nothing can foresee
     // how.
     pub fn label_sum(&self, set: &CellSet) -> u32
