@@ -58,8 +58,8 @@ Unreachable c free d = (s : Cellset) → Reaches c free d s → ⊥
 abbrev pub cells_of : Code → Cellset → List ℕ
 cells_of c s = filter s (range_with_len 0 c.cells)
 
--- A list of numbers comes no later than another in dictionary order: they are the same, or where they first differ it
--- has the smaller number or has ended.
+-- A list of numbers comes no later than another in dictionary (lexicographic) order: they are the same, or where they
+-- first differ it has the smaller number or has ended.
 abbrev pub ComesNoLater : List ℕ → List ℕ → Type 0
 ComesNoLater xs ys = is_le (slice_cmp nat_cmp xs ys) ≡ true
 
