@@ -11,7 +11,7 @@ use Rattle.cells.proofs.SameRows.{refused_once, served_not_refused}
 use Rattle.calls.proofs.Determined.{served_record, serves_same}
 use Rattle.c_entry.specs.Entry.{entry_rows, CallsOnImage}
 use Rattle.c_entry.specs.Together.{LinkedBytes}
-use Rattle.c_entry.specs.Determined.{OneImageCall, CodedCall, CallsInTurn, ImageCallsAgree}
+use Rattle.c_entry.specs.Determined.{OneImageCall, CodedCall, ByRules, CallsInTurn, ImageCallsAgree}
 
 pub image_call_agrees : OneImageCall
 image_call_agrees c call xs ys ys' a a' (inl s) (inl s') =
@@ -29,10 +29,6 @@ image_call_agrees c call xs ys ys' a a' (inr r) (inr r') = (
   r'.1.unchanged ∙ sym r.1.unchanged,
 )
 
--- a call by the rules
-abbrev IsCall : CodedCall → Type 0
-IsCall e = CallsOnImage e.code e.made.call e.made.before e.made.after e.made.answer
-
 -- a call by its parts
 made_of : Code → Call → List ℕ → List ℕ → ℕ → CodedCall
 made_of c call xs ys a = record { code = c; made = record { call = call; before = xs; after = ys; answer = a } }
@@ -47,16 +43,16 @@ image_calls_agree xs ys ys' (e ∷ es) (e' ∷ es') codes calls turn turn' =
     let call : e'.made.call ≡ e.made.call = ap (λ l. get_or l 0 e.made.call) calls in
     let found : e'.made.before ≡ e.made.before = turn'.linked.0 ∙ sym turn.linked.0 in
     let by : CallsOnImage e.code e'.made.call e'.made.before e'.made.after e'.made.answer =
-    subst (λ c. CallsOnImage c e'.made.call e'.made.before e'.made.after e'.made.answer) code (All-head IsCall e' es' turn'.rules) in
+    subst (λ c. CallsOnImage c e'.made.call e'.made.before e'.made.after e'.made.answer) code (All-head ByRules e' es' turn'.rules) in
     let one =
-    image_call_agrees e.code e.made.call e.made.before e.made.after e'.made.after e.made.answer e'.made.answer (All-head IsCall e es turn.rules)
+    image_call_agrees e.code e.made.call e.made.before e.made.after e'.made.after e.made.answer e'.made.answer (All-head ByRules e es turn.rules)
     (subst₂ (λ z b. CallsOnImage e.code z b e'.made.after e'.made.answer) call found by) in
     let rest =
     image_calls_agree e.made.after ys ys' es es' (ap (drop 1) codes) (ap (drop 1) calls)
-    (record { linked = turn.linked.1; rules = All-tail IsCall e es turn.rules })
+    (record { linked = turn.linked.1; rules = All-tail ByRules e es turn.rules })
     (record {
       linked = subst (λ b. LinkedBytes b (map (λ (x : CodedCall). x.made) es') ys') one.1 turn'.linked.1;
-      rules = All-tail IsCall e' es' turn'.rules;
+      rules = All-tail ByRules e' es' turn'.rules;
     }) in
     let here : e' ≡ e =
     ap (λ c. made_of c e'.made.call e'.made.before e'.made.after e'.made.answer) code

@@ -1,5 +1,5 @@
-//! What calls from C keep together, and that they are determined, each on the contract of a function with no code: no
-//! caller in C needs it.
+//! What calls from C keep together, and that they are determined, each on the contract of a
+//! function with no code: no caller in C needs it.
 ghost use Rattle.c_entry.specs.Determined.{OneImageCall, ImageCallsAgree};
 ghost use Rattle.c_entry.specs.Together.{ImageCallsSuffice};
 
@@ -10,9 +10,10 @@ pub fn image_calls_suffice()
     ensures { ImageCallsSuffice }
 {}
 
-/// A call from C has one answer and leaves the same bytes, whoever makes it with the same code on the same bytes; and
-/// so do the same calls made one after the other, each with any kind, parameter and number of cells, with nothing else
-/// writing there. So two users who make the same calls on equal images have equal images after each of them.
+/// A call from C has one answer and leaves the same bytes, whoever makes it with the same code on
+/// the same bytes; and so do the same calls made one after the other, each with any kind, parameter
+/// and number of cells, with nothing else writing there. So two users who make the same calls on
+/// equal images have equal images after each of them.
 pub fn image_calls_agree()
     ensures single { OneImageCall }
     ensures list { ImageCallsAgree }

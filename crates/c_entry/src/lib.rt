@@ -48,8 +48,8 @@ pub extern "C" fn record_store_put(
     enter(kind, parameter, n, Call::Put { record, value }, image)
 }
 
-// Erases the page of a record, and writes its records again, each by its plan: this one with a new value, the others
-// with theirs. It answers how many cells it set.
+// Erases the page of a record, and writes its records again, each by its plan: this one with a new
+// value, the others with theirs. It answers how many cells it set.
 #[unsafe(no_mangle)]
 pub extern "C" fn record_store_renew(
     kind: u32,

@@ -52,8 +52,8 @@ sizes n sets (suc b) = size_below (sets b) n + sizes n sets b
 abbrev pub renewed_value : Code → Cells → ℕ → ℕ → ℕ → ℕ
 renewed_value c before named x k = cond (k == named) x (value c before k)
 
--- A renewal of record k to x: its page was erased, and each record of the page was written into unset cells by the plan
--- for its value. `marked` counts the cells that were set.
+-- A renewal of record k to x: its page was erased, and each record of the page was written into
+-- unset cells by the plan for its value. `marked` counts the cells that were set.
 pub record Renewed (c : Code) (k x : ℕ) (before after : Cells) (marked : ℕ) : Type 0 where
   pub shape : Shaped before after
   -- the plan of the record at place r of the page

@@ -43,7 +43,8 @@ pub data Example : Type 0 where
   plans : Code → List ℕ → ℕ → List ℕ → Example
   -- … has for this target just these smallest sets of unset cells that lead to it
   smallest : Code → List ℕ → ℕ → List (List ℕ) → Example
-  -- … serves this call, answers this number, and has these cells set afterwards, rising, and no others
+  -- … serves this call, answers this number, and has these cells set afterwards, rising, and no
+  -- others
   leaves : Code → List ℕ → Call → ℕ → List ℕ → Example
   -- … has these cells set, rising
   lists : Code → List ℕ → List ℕ → Example
@@ -83,21 +84,23 @@ abbrev pub AllSmallest : Code → List ℕ → ℕ → List (List ℕ) → Type 
 AllSmallest c ls x [] = Unit {0}
 AllSmallest c ls x (p ∷ ps) = IsSmallest c ls x (labelled p) × AllSmallest c ls x ps
 
--- The call is not refused. It can be served with the answer r, and however it is served it has this answer, and page 0
--- has these cells set afterwards.
+-- The call is not refused. It can be served with the answer r, and however it is served it has this
+-- answer, and page 0 has these cells set afterwards.
 pub record Leaves (c : Code) (call : Call) (before : Cells) (r : ℕ) (cells : List ℕ) : Type 0 where
   pub not_refused : Served (rows c before call)
   pub after : Cells
   pub served : Serves c call r before after
   pub only :
-      (answer : ℕ) (left : Cells) → Serves c call answer before left → (answer ≡ r) × (cells_of c (left.set 0) ≡ cells)
+      (answer : ℕ) (left : Cells) → Serves c call answer before left →
+      (answer ≡ r) × (cells_of c (left.set 0) ≡ cells)
 
 abbrev pub ExampleHolds : Example → Type 0
 ExampleHolds (holds c ls x) = value c (one_record c ls) 0 ≡ x
 ExampleHolds (steps c ls x d) = step_to c ls x ≡ d
 ExampleHolds (plans c ls x p) =
     IsPlan c ls x (labelled p) × ((s : Cellset) → IsPlan c ls x s → SameCells c (labelled p) s)
-ExampleHolds (smallest c ls x ps) = AllSmallest c ls x ps × ((s : Cellset) → IsSmallest c ls x s → Listed c s ps)
+ExampleHolds (smallest c ls x ps) =
+    AllSmallest c ls x ps × ((s : Cellset) → IsSmallest c ls x s → Listed c s ps)
 ExampleHolds (leaves c ls call r cells) = Leaves c call (one_record c ls) r cells
 ExampleHolds (lists c ls cells) = cells_of c (labelled ls) ≡ cells
 ExampleHolds (comes_first xs ys) = ComesNoLater xs ys × (ComesNoLater ys xs → ⊥)

@@ -27,8 +27,8 @@ FullExactly c (Put k x) a before =
     Served (rows_before 42 (rows c before (Put k x))) →
     RefusedFull a ↔ Unreachable c (free c before k) (step c.group (value c before k) x)
 
--- Fewest cells, and the first of the fewest: an accepted put sets one such subset and nothing else, and answers its
--- size; none is smaller, and none as small comes before it in dictionary order.
+-- Fewest cells, and the first of the fewest: an accepted put sets one such subset and nothing else,
+-- and answers its size; none is smaller, and none as small comes before it in dictionary order.
 abbrev pub Fewest : Code → Call → Answer → Cells → Cells → Type 0
 Fewest c (Get k) a before after = Unit {0}
 Fewest c (Renew k x) a before after = Unit {0}

@@ -28,18 +28,19 @@ pub fn paired_cells_known<A: CellArray>()
     ensures { PairedCellsKnown A.CellArray ⟦<Paired<A> as CellArray>⟧ }
 {}
 
-/// One call, and a run of them, is determined: with one code and from states that agree the same calls have the same
-/// answers, a fault with all that it carries included, need the same steps of the array, and end in states that agree.
-/// This is said of one call, of calls one after the other, each by its rules, and of lists of calls with the promise.
+/// One call, and a run of them, is determined: with one code and from states that agree the same
+/// calls have the same answers, a fault with all that it carries included, need the same steps of
+/// the array, and end in states that agree. This is said of one call, of calls one after the other,
+/// each by its rules, and of lists of calls with the promise.
 pub fn runs_agree()
     ensures calls { CallsAgree }
     ensures histories { HistoriesAgree }
     ensures runs { RunsAgree }
 {}
 
-/// So are lists of calls with one code over any two arrays whose cells agree, of one kind or not, from equal ledgers:
-/// the entries of both lists are equal afterwards, and so are the ledgers; both arrays took the same steps, and their
-/// cells agree.
+/// So are lists of calls with one code over any two arrays whose cells agree, of one kind or not,
+/// from equal ledgers: the entries of both lists are equal afterwards, and so are the ledgers; both
+/// arrays took the same steps, and their cells agree.
 pub fn lists_agree<A: CellArray, B: CellArray, C>()
     ensures { ListsAgree A.CellArray B.CellArray C }
 {}

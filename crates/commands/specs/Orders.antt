@@ -57,8 +57,8 @@ pub record NineDigitHeading (h : Head GroupWord Number) : Type 0 where
   pub pages : h.pages.value < 1000000000
   pub width : h.width.value < 1000000000
 
--- The line orders o: it is o written out, the numbers have the columns of their first digits, and each has at most nine
--- digits, so that the line orders nothing else.
+-- The line orders o: it is o written out, the numbers have the columns of their first digits, and
+-- each has at most nine digits, so that the line orders nothing else.
 abbrev pub IsOrder : List ℕ → Command Number → Type 0
 IsOrder l o = (l ≡ written o) × Columns o × NineDigitOrder o
 

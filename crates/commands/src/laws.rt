@@ -2,7 +2,8 @@
 //! They speak of the definitions alone, which the readers of orders and headings meet.
 ghost use Rattle.commands.specs.Orders.{OrdersPass, HeadingsPass, OneOrder, OneHeading};
 
-/// Every order and every heading whose numbers have at most nine digits passes its table when it is written out.
+/// Every order and every heading whose numbers have at most nine digits passes its table when it is
+/// written out.
 pub fn written_lines_pass()
     ensures orders { OrdersPass }
     ensures headings { HeadingsPass }

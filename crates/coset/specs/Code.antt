@@ -58,16 +58,17 @@ Unreachable c free d = (s : Cellset) → Reaches c free d s → ⊥
 abbrev pub cells_of : Code → Cellset → List ℕ
 cells_of c s = filter s (range_with_len 0 c.cells)
 
--- A list of numbers comes no later than another in dictionary (lexicographic) order: they are the same, or where they
--- first differ it has the smaller number or has ended.
+-- A list of numbers comes no later than another in dictionary (lexicographic) order: they are the
+-- same, or where they first differ it has the smaller number or has ended.
 abbrev pub ComesNoLater : List ℕ → List ℕ → Type 0
 ComesNoLater xs ys = is_le (slice_cmp nat_cmp xs ys) ≡ true
 
--- The plan for d: a set of free cells whose sum is d, of which no such set has fewer. Of those with as many cells it
--- comes first: no other has a list of cells that comes earlier. So there is one plan at most (`PlansAgree` in
--- `OnePlan`).
+-- The plan for d: a set of free cells whose sum is d, of which no such set has fewer. Of those with
+-- as many cells it comes first: no other has a list of cells that comes earlier. So there is one
+-- plan at most (`PlansAgree` in `OnePlan`).
 pub record Plan (c : Code) (free : Cellset) (d : ℕ) (s : Cellset) : Type 0 where
   pub reaches : Reaches c free d s
   pub fewest : (t : Cellset) → Reaches c free d t → size_of c s ≤ size_of c t
   pub first :
-      (t : Cellset) → Reaches c free d t → size_of c t ≡ size_of c s → ComesNoLater (cells_of c s) (cells_of c t)
+      (t : Cellset) → Reaches c free d t → size_of c t ≡ size_of c s →
+      ComesNoLater (cells_of c s) (cells_of c t)

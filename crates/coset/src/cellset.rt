@@ -8,7 +8,8 @@ pub const MAX_CELLS: usize = 63;
 // a bit for each of these cells
 const ALL: u64 = u64::MAX >> 1;
 
-/// A set of cells, each below 63. It has memory of a fixed size, since a put may not fail for want of it.
+/// A set of cells, each below 63. It has memory of a fixed size, since a put may not fail for want
+/// of it.
 #[derive(Clone, Copy, PartialEq, Debug)]
 pub struct CellSet {
     bits: u64,
@@ -66,7 +67,8 @@ impl CellSet {
         self.assign(cell, true);
     }
 
-    /// Puts a cell into the set, or takes it out. A cell from 63 on is not taken, and the set is then as it was.
+    /// Puts a cell into the set, or takes it out. A cell from 63 on is not taken, and the set is
+    /// then as it was.
     pub fn assign(&mut self, cell: usize, member: bool)
         ensures taken { cell < 63 → (i : ℕ) → members_of self.new i ≡ (if i == cell then member else members_of self.old i) }
         ensures refused { 63 ≤ cell → self.new ≡ self.old }

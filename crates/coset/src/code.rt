@@ -1,5 +1,6 @@
-//! Coset codes: a group, and how many cells a record has. The labels of the cells run through the nonzero elements,
-//! again and again, and what the labels of its set cells sum to is the value of a record.
+//! Coset codes: a group, and how many cells a record has. The labels of the cells run through the
+//! nonzero elements, again and again, and what the labels of its set cells sum to is the value of a
+//! record.
 ghost use Rattle.std.specs.Prelude.{◌≡◌};
 ghost use Rattle.coset.specs.CellSets.{members_of};
 ghost use Rattle.coset.specs.Code.{sum_of};
@@ -9,8 +10,8 @@ ghost use Rattle.coset.specs.Code.{label_of};
 use crate::cellset::CellSet;
 use group::interface::Group;
 
-/// A group, and how many cells a record has. Any group and any number may stand here; where no store can be made of
-/// them, `check_making` of the store refuses them.
+/// A group, and how many cells a record has. Any group and any number may stand here; where no
+/// store can be made of them, `check_making` of the store refuses them.
 #[derive(Clone, Copy, Drop)]
 pub struct Code<G> {
     /// its elements are the values, and those other than 0 the labels
@@ -40,9 +41,10 @@ impl<G: Group> Code<G> {
         1 + turn as u32
     }
 
-    /// What the labels of the cells of a set sum to, of those that a record has; 0 where it has none of them.
-    // A loop from each cell of the set to the next: a chain over all cells branches at each, and nothing can foresee
-    // how.
+    /// What the labels of the cells of a set sum to, of those that a record has; 0 where it has
+    /// none of them.
+    // A loop from each cell of the set to the next: a chain over all cells branches at each, and
+    // nothing can foresee how.
     pub fn label_sum(&self, set: &CellSet) -> u32
         ensures { result ≡ sum_of (code_of G.Group self.now) (members_of set.now) }
     {

@@ -1,5 +1,5 @@
-//! Coset codes: the cells of a record and their labels, and the planner, which finds the smallest set of cells that
-//! takes a record to a value, and of several the first.
+//! Coset codes: the cells of a record and their labels, and the planner, which finds the smallest
+//! set of cells that takes a record to a value, and of several the first.
 #![tactic(auto)]
 
 pub mod cellset;

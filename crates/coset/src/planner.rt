@@ -1,6 +1,6 @@
-//! The planner: the smallest set of free cells of a record whose labels sum to a given element, and of several the
-//! first. A table of the fewest cells, by cell and element, is filled from the last cell to the first, and then walked
-//! back.
+//! The planner: the smallest set of free cells of a record whose labels sum to a given element, and
+//! of several the first. A table of the fewest cells, by cell and element, is filled from the last
+//! cell to the first, and then walked back.
 ghost use Rattle.std.specs.Prelude.{◌≡◌, ℕ, ◌+◌, ◌-◌, ◌<◌, ◌≤◌, ◌==◌, min, true, replicate, slice_index};
 ghost use Rattle.group.specs.Group.{In, Usable, step};
 ghost use Rattle.coset.specs.CellSets.{members_of};
@@ -71,9 +71,10 @@ impl Table {
 impl<G: Group> Code<G> {
     ghost use Rattle.coset.specs.Codes.{code_of};
 
-    /// The plan for a step: the smallest set of free cells of a record whose labels sum to it, and of several as small
-    /// the first in dictionary order of their rising lists of cells; or none where no free cells sum to it. Any step
-    /// may be asked for; the step 0 takes no cell, and one that is no element of the group has no plan.
+    /// The plan for a step: the smallest set of free cells of a record whose labels sum to it, and
+    /// of several as small the first in dictionary order of their rising lists of cells; or none
+    /// where no free cells sum to it. Any step may be asked for; the step 0 takes no cell, and one
+    /// that is no element of the group has no plan.
     pub fn plan(&self, free: &CellSet, step: u32) -> Option<CellSet>
         ensures { Plans (code_of G.Group self.now) (members_of free.now) step result }
     {
@@ -142,9 +143,10 @@ impl<G: Group> Search<'_, G> {
         moved
     }
 
-    // From the first cell on, a cell is taken wherever the fewest cells from it on can do with it, until nothing is
-    // left to reach. So where another smallest set first differs, it is the other that lacks the cell. A loop, since
-    // each turn goes on from the set and the step that the one before left; a fold would carry the two as a pair.
+    // From the first cell on, a cell is taken wherever the fewest cells from it on can do with it,
+    // until nothing is left to reach. So where another smallest set first differs, it is the other
+    // that lacks the cell. A loop, since each turn goes on from the set and the step that the one
+    // before left; a fold would carry the two as a pair.
     fn walk(&self, table: &Table, step: u32) -> CellSet
         requires filled { Filled (search_code self.now) (members_of self.now.free.now) table.now 0 }
         requires element { In (G.Group.meaning self.now.code.now.group) step }

@@ -11,9 +11,11 @@ use Rattle.images.specs.Written.{written}
 abbrev pub WrittenAlike : Type 0
 WrittenAlike = (f : Format) (m n : Cells) → Alike m n → written f n ≡ written f m
 
--- Two images that the check accepts, and that are read as arrays that agree, are the same bytes. Each number in them is
--- to be a byte, which the check does not ask: the two numbers 0 and 1024 show the same width as the bytes 4 and 0.
+-- Two images that the check accepts, and that are read as arrays that agree, are the same bytes.
+-- Each number in them is to be a byte, which the check does not ask: the two numbers 0 and 1024
+-- show the same width as the bytes 4 and 0.
 abbrev pub ImagesAgree : Type 0
 ImagesAgree =
     (f : Format) (xs ys : List ℕ) → All (λ x. x < 256) xs → All (λ y. y < 256) ys →
-    Served (image_rows f xs) → Served (image_rows f ys) → Alike (decoded f xs) (decoded f ys) → ys ≡ xs
+    Served (image_rows f xs) → Served (image_rows f ys) →
+    Alike (decoded f xs) (decoded f ys) → ys ≡ xs

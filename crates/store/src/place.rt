@@ -21,5 +21,6 @@ pub(crate) struct Found {
     pub(crate) value: u32,
 }
 
-// The plan of each record of a page. It never allocates, so that a renewal never fails for want of memory.
+// The plan of each record of a page. It never allocates, so that a renewal never fails for want of
+// memory.
 pub(crate) type PagePlans = ArrayVec<CellSet, MAX_PER_PAGE>;

@@ -103,10 +103,11 @@ impl<G: Group, A: CellArray> Store<G, A> {
         Ok(self.find(record)?.value)
     }
 
-    /// Marks the cells of the plan, each once and rising, and no other; it answers how many. The plan is, of the
-    /// smallest sets of unset cells that take the record to the value, the one whose rising list of cells comes first
-    /// in dictionary order. Refused by 40, 41 or 42, and then nothing is altered. A record and a value are two
-    /// numbers here and below; where there is a list, `Call` holds both.
+    /// Marks the cells of the plan, each once and rising, and no other; it answers how many. The
+    /// plan is, of the smallest sets of unset cells that take the record to the value, the one
+    /// whose rising list of cells comes first in dictionary order. Refused by 40, 41 or 42, and
+    /// then nothing is altered. A record and a value are two numbers here and below; where there is
+    /// a list, `Call` holds both.
     pub fn put(&mut self, record: usize, value: u32) -> Result<u32, StoreFault>
         ensures keeps { Keeps A.CellArray self.old self.new }
         ensures obeys { Obeys (code_of G.Group self.old.code) (Put «record» value) result
@@ -126,9 +127,9 @@ impl<G: Group, A: CellArray> Store<G, A> {
 }
 
 impl<G: Group, A: Erasable> Store<G, A> {
-    /// Erases the page of a record once, and writes its records again, rising, each by its plan from empty: this one
-    /// with a new value, the others with theirs. It answers how many cells it marked. Refused by 40, 41, 43, 44 or
-    /// 22, and then no cell is altered.
+    /// Erases the page of a record once, and writes its records again, rising, each by its plan
+    /// from empty: this one with a new value, the others with theirs. It answers how many cells it
+    /// marked. Refused by 40, 41, 43, 44 or 22, and then no cell is altered.
     pub fn renew(&mut self, record: usize, value: u32) -> Result<u32, StoreFault>
         ensures keeps { Keeps A.CellArray self.old self.new }
         ensures obeys { Obeys (code_of G.Group self.old.code) (Renew «record» value) result
